@@ -278,15 +278,15 @@ static void core_forgets(void) {
     teurlaks_drop(&many);
 }
 
-/* An empty core has a block of its own, and no shard, ring or room for a plan. A look-up and a free
- * of a key that it never gave out, a trim and a retirement take nothing. The first put takes one
- * shard. */
+/* An empty core has a block of its own, and no shard, pool, ring or room for a plan. A look-up and
+ * a free of a key that it never gave out, a trim and a retirement take nothing. The first put takes
+ * one shard. */
 static void little(void) {
     struct teurlaks_handle many = {0};
     struct teurlaks_key none = {0};
     size_t before = bytes, kept = blocks;
     WANT(teurlaks_new(&many, 64, MANY, 1024, 9) == TEURLAKS_OK);
-    WANT(blocks == kept + 1 && bytes - before <= 304);
+    WANT(blocks == kept + 1 && bytes - before <= 192);
     none.generation = 1;
     QUIETLY(teurlaks_get(&many, none).status == TEURLAKS_NONE);
     QUIETLY(teurlaks_free(&many, none) == TEURLAKS_NONE);
@@ -294,7 +294,7 @@ static void little(void) {
     QUIETLY(teurlaks_retire(&many, 63, 1).status == TEURLAKS_OK);
     QUIETLY(teurlaks_begin(&many, 63) == TEURLAKS_RUNNING);
     WANT(teurlaks_put(&many, 0, (struct teurlaks_word){1, 2}).status == TEURLAKS_OK);
-    WANT(bytes - before <= SMALL + 800);
+    WANT(bytes - before <= SMALL + 752);
     teurlaks_drop(&many);
 }
 

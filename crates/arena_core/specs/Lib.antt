@@ -2,7 +2,6 @@ pub mod Calls
 pub mod Filled
 pub mod Forgets
 pub mod Kept
-pub mod LatePlan
 pub mod Lookups
 pub mod Made
 pub mod Moved

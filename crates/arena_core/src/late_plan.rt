@@ -15,13 +15,12 @@ pub struct LatePlan {
 }
 
 impl Model for LatePlan {
-    ghost use Rattle.std.specs.Prelude.{Option, option_map};
+    ghost use Rattle.std.specs.Prelude.{None, Option, option_map, unwrap_or};
     ghost use Rattle.marks.specs.Plans.{OpenPlan};
-    ghost use Rattle.arena_core.specs.LatePlan.{plan_in};
 
     ghost Value = { Option OpenPlan };
 
-    ghost view = { λ late. plan_in (option_map (λ plan. plan.value) late.plan) };
+    ghost view = { λ late. unwrap_or (option_map (λ plan. plan.value) late.plan) None };
 }
 
 impl LatePlan {

@@ -58,6 +58,7 @@
 mod error;
 mod event;
 mod late_plan;
+mod late_rings;
 mod machine;
 mod reply;
 mod rings;

@@ -12,8 +12,8 @@ ghost use Rattle.arena_core.specs.Plain.{ErasedStep};
 use crate::error::CoreError;
 use crate::event::Event;
 use crate::late_plan::LatePlan;
+use crate::late_rings::LateRings;
 use crate::reply::{Refusal, Reply};
-use crate::rings::Rings;
 use crate::whereabouts::Whereabouts;
 use marks::{Limits, Totals};
 use mesh_graph::{AtHand, Runner};
@@ -51,7 +51,7 @@ pub struct Core<L: Log = Kept> {
     pool: Pool<L>,
     plan: LatePlan,
     whereabouts: Whereabouts,
-    rings: Rings,
+    rings: LateRings,
     // Proofs alone read it: the spans that were forgotten, the earliest first.
     forgotten: GhostList<Span<Counted>>,
 }
@@ -134,7 +134,7 @@ impl<L: Log> Core<L> {
         ensures empty { shown result ≡ empty_map }
         ensures sound { IsSound result }
     {
-        let rings = Rings::new(alloc, limits.shards(), limits.ring_capacity());
+        let rings = LateRings::new(limits.shards(), limits.ring_capacity());
         Core {
             alloc,
             limits,

@@ -253,8 +253,8 @@ impl Rings {
     }
 }
 
-// What is taken from a ring on which no key was put.
-fn none_waits(shards: u32, worker: u32, shard: u32) -> Result<Option<Key>, Refusal>
+/// What is taken from a ring on which no key was put.
+pub fn none_waits(shards: u32, worker: u32, shard: u32) -> Result<Option<Key>, Refusal>
     ensures { MatchResult result (λ found. (found ≡ None) × (worker < shards) × (shard < shards))
         (λ refusal. (refusal ≡ Refusal.Config) × ((shards ≤ worker) ⊎ (shards ≤ shard))) }
 {

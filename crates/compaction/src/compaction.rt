@@ -9,10 +9,9 @@ ghost use Rattle.compaction.specs.Told.{standing_of};
 
 use crate::advanced::{Advanced, advanced_by};
 use crate::compacted::{Compacted, Standing};
+use crate::late_work::LateWork;
 use crate::progress::{Phase, Progress};
-use crate::work::{
-    Stage, Work, note_adoption, note_mark, note_retirement, shard_of, share_of, stage_of,
-};
+use crate::work::Stage;
 use arena_core::{Core, Event, Refusal, Reply};
 use certificate::Certificate;
 use span::spans::Counted;
@@ -27,7 +26,7 @@ const WORTH: usize = 16;
 pub struct Compaction {
     progress: Progress,
     // What comes next where the progress leaves a choice, from the first mark on.
-    work: Option<Box<Work>>,
+    work: LateWork,
 }
 
 impl Model for Compaction {
@@ -61,7 +60,7 @@ impl Compaction {
     {
         Compaction {
             progress,
-            work: None,
+            work: LateWork::new(),
         }
     }
 
@@ -138,7 +137,7 @@ impl Compaction {
         ensures sound { IsSound core.new }
     {
         let is_choosing = matches!(self.progress.phase, Phase::Choosing);
-        if is_choosing && matches!(stage_of(&self.work), Stage::Retire) {
+        if is_choosing && matches!(self.work.stage(), Stage::Retire) {
             return self.retire(core, left);
         }
         Taken {
@@ -172,7 +171,7 @@ impl Compaction {
         ensures stands { Leaves (standing_of result) core.new }
         ensures sound { IsSound core.new }
     {
-        match stage_of(&self.work) {
+        match self.work.stage() {
             Stage::Keep | Stage::Adopt => self.adopt(core, budget),
             Stage::End if self.progress.is_spent => self.end(core),
             // A retirement is no such step.
@@ -236,11 +235,10 @@ impl Compaction {
         ensures sound { IsSound core.now }
     {
         let is_planned = core.has_plan();
-        if self.work.is_some() || is_planned {
+        if self.work.is_made() || is_planned {
             return Ok(());
         }
-        let work = Box::new(core.alloc(), Work::new())?;
-        self.work = Some(work);
+        self.work.make(core.alloc())?;
         Ok(())
     }
 
@@ -254,7 +252,7 @@ impl Compaction {
         let is_worth = is_worth(certificate);
         self.progress.phase = Phase::Folding;
         self.progress.is_spent = !is_worth;
-        note_mark(&mut self.work, is_worth, certificate);
+        self.work.note_mark(is_worth, certificate);
     }
 
     // Folds the next pair of the plan, if one is left.
@@ -308,8 +306,8 @@ impl Compaction {
         ensures stands { Leaves (standing_of result.advanced) core.new }
         ensures sound { IsSound core.new }
     {
-        let shard = shard_of(&self.work);
-        let share = share_of(&self.work, self.progress.trimmed);
+        let shard = self.work.shard();
+        let share = self.work.share(self.progress.trimmed);
         let most = share.min(left).max(1);
         let reply = core.step(Event::Retire { shard, most });
         self.note_retired(&reply, share, most);
@@ -324,7 +322,8 @@ impl Compaction {
     fn note_retired(&mut self, reply: &Reply, share: usize, most: usize)
         ensures { self.new ≡ self.old }
     {
-        note_retirement(&mut self.work, reply, self.progress.trimmed, share, most);
+        self.work
+            .note_retirement(reply, self.progress.trimmed, share, most);
     }
 
     // Has a shard adopt the next group of the pool, until enough are kept, or there is none, or no
@@ -336,7 +335,7 @@ impl Compaction {
         ensures stands { Leaves (standing_of result) core.new }
         ensures sound { IsSound core.new }
     {
-        let shard = shard_of(&self.work);
+        let shard = self.work.shard();
         let reply = core.step(Event::Adopt { shard });
         self.after_adoption(&reply, core, budget);
         advanced_by(&reply)
@@ -346,7 +345,8 @@ impl Compaction {
     fn after_adoption(&mut self, reply: &Reply, core: &Core<Counted>, budget: usize)
         ensures { self.new ≡ self.old }
     {
-        note_adoption(&mut self.work, reply, self.progress.trimmed, core, budget);
+        self.work
+            .note_adoption(reply, self.progress.trimmed, core, budget);
     }
 
     // Forgets once more, and then all is done.

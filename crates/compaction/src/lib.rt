@@ -50,6 +50,7 @@ mod advanced;
 mod compacted;
 mod compaction;
 mod division;
+mod late_work;
 mod occupancy;
 mod progress;
 mod round;

@@ -1,4 +1,4 @@
-// What a compaction keeps beside what it has gone through, from its first mark on.
+// Which round of a compaction it is, and what comes next in it.
 
 use crate::occupancy::{MOST_GROUPS, Occupancy};
 use crate::round::Round;
@@ -22,14 +22,13 @@ pub(crate) enum Stage {
     End,
 }
 
-/// Which round of a compaction it is, and what comes next in it. It stands in a box that comes with
-/// the first mark and goes with the compaction: a core that is not compacted has no room for it.
+/// Which round of a compaction it is, and what comes next in it, from its first mark on.
 #[derive(Drop)]
 pub(crate) struct Work {
-    stage: Stage,
+    pub(crate) stage: Stage,
     // How many slots a page has, of the class with the most that a mark saw.
     slots: usize,
-    turn: Turn,
+    pub(crate) turn: Turn,
     rounds: Rounds,
     round: Round,
 }
@@ -46,8 +45,8 @@ impl Work {
         }
     }
 
-    // What the next shard retires of what is wanted, if others of so many have as many.
-    fn share(&self, shards: u32) -> usize {
+    /// What the next shard retires of what is wanted, if others of so many have as many.
+    pub(crate) fn share(&self, shards: u32) -> usize {
         if self.turn.due > 0 {
             self.turn.due
         } else {
@@ -56,8 +55,8 @@ impl Work {
         }
     }
 
-    // Notes what the mark planned, of which side, and what the pages are.
-    fn note_marked(&mut self, is_worth: bool, certificate: &Certificate) {
+    /// Notes what the mark planned, of which side, and what the pages are.
+    pub(crate) fn note_marked(&mut self, is_worth: bool, certificate: &Certificate) {
         self.round = self.round.with_mark(is_worth, leaves_some(certificate));
         self.slots = self.slots.max(slots_of(&certificate.snapshot));
         self.turn = Turn::first();
@@ -68,8 +67,8 @@ impl Work {
         };
     }
 
-    // Notes how many groups the shard retired of those that it was asked for.
-    fn note_retired(&mut self, shards: u32, count: usize, share: usize, most: usize) {
+    /// Notes how many groups the shard retired of those that it was asked for.
+    pub(crate) fn note_retired(&mut self, shards: u32, count: usize, share: usize, most: usize) {
         self.round = self.round.with_retired(count);
         self.turn = if count < most {
             self.turn.without_this().next(shards)
@@ -88,9 +87,9 @@ impl Work {
         }
     }
 
-    // Notes who adopted the group, and answers whether no further one is to be adopted. Groups come
-    // by ascending heads, so that a shard adopts what follows on its own.
-    fn note_adopted(&mut self, reply: &Reply, shards: u32) -> bool {
+    /// Notes who adopted the group, and answers whether no further one is to be adopted. Groups
+    /// come by ascending heads, so that a shard adopts what follows on its own.
+    pub(crate) fn note_adopted(&mut self, reply: &Reply, shards: u32) -> bool {
         match reply {
             Reply::Adopted(head) => {
                 self.turn = Turn::first().at(head.shard);
@@ -107,8 +106,8 @@ impl Work {
         }
     }
 
-    // Goes on with the mark, or with the next round, if there is one.
-    fn end_adoptions(&mut self, core: &Core<Counted>, budget: usize) {
+    /// Goes on with the mark, or with the next round, if there is one.
+    pub(crate) fn end_adoptions(&mut self, core: &Core<Counted>, budget: usize) {
         self.turn = Turn::first();
         if matches!(self.stage, Stage::Keep) {
             self.stage = Stage::Mark;
@@ -127,71 +126,6 @@ impl Work {
                 self.round = Round::of_pool();
                 self.stage = Stage::End;
             }
-        }
-    }
-}
-
-/// What comes next: the mark, if none was made.
-pub(crate) fn stage_of(work: &Option<Box<Work>>) -> Stage {
-    match work {
-        Some(work) => work.stage,
-        None => Stage::Mark,
-    }
-}
-
-/// The shard that is asked next.
-pub(crate) fn shard_of(work: &Option<Box<Work>>) -> u32 {
-    match work {
-        Some(work) => work.turn.shard,
-        None => 0,
-    }
-}
-
-/// What the next of so many shards retires of what is wanted, if others have as many.
-pub(crate) fn share_of(work: &Option<Box<Work>>, shards: u32) -> usize {
-    match work {
-        Some(work) => work.share(shards),
-        None => 0,
-    }
-}
-
-/// Notes what a mark planned, and whether that is worth another one.
-pub(crate) fn note_mark(work: &mut Option<Box<Work>>, is_worth: bool, certificate: &Certificate) {
-    if let Some(work) = work {
-        work.note_marked(is_worth, certificate);
-    }
-}
-
-/// Notes how many groups one of so many shards retired of those that it was asked for. One that has
-/// ended has none.
-pub(crate) fn note_retirement(
-    work: &mut Option<Box<Work>>,
-    reply: &Reply,
-    shards: u32,
-    share: usize,
-    most: usize,
-) {
-    let count = match reply {
-        Reply::Retired(count) => *count,
-        Reply::Refused(Refusal::OutOfMemory | Refusal::PlanOpen) => return,
-        _ => 0,
-    };
-    if let Some(work) = work {
-        work.note_retired(shards, count, share, most);
-    }
-}
-
-/// Notes the adoption by one of so many shards, and goes on if it was the last one.
-pub(crate) fn note_adoption(
-    work: &mut Option<Box<Work>>,
-    reply: &Reply,
-    shards: u32,
-    core: &Core<Counted>,
-    budget: usize,
-) {
-    if let Some(work) = work {
-        if work.note_adopted(reply, shards) {
-            work.end_adoptions(core, budget);
         }
     }
 }

@@ -8,7 +8,7 @@ use Rattle.span.specs.Ids.{rank}
 use Rattle.span.specs.State.{SpanState}
 use Rattle.groups.specs.Dead.{live_among, without_dead}
 use Rattle.groups.specs.Directory.{Entries, KnowsGuests}
-use Rattle.groups.specs.Group.{paged_in, spans_of}
+use Rattle.groups.specs.Group.{HaveGuestsOnce, paged_in, spans_of}
 use Rattle.groups.specs.Sound.{AreSoundGroups, AreStored}
 use Rattle.groups.specs.Spans.{union_of}
 use Rattle.groups.proofs.DeadGuests.{after-filter, before-filter, live_among-none, live_slots-none}
@@ -17,7 +17,7 @@ use Rattle.groups.proofs.Lists.{before-map, same_some}
 use Rattle.shard.proofs.ChangedBelow.{changed_below}
 use Rattle.pool.specs.Forgets.{left_in}
 use Rattle.pool.specs.Noted.{AreNoted}
-use Rattle.pool.specs.Ranked.{AreFound, HaveGuestsOnce, HaveOwnHeads, KeepsPaged, LetsGo, arranged, head_rank, in_order, lower}
+use Rattle.pool.specs.Ranked.{AreFound, HaveOwnHeads, KeepsPaged, LetsGo, arranged, head_rank, in_order, lower}
 use Rattle.pool.specs.State.{PooledState}
 use Rattle.pool.proofs.Arranged.{IsIn, arranged-in, in-arranged, same_up}
 use Rattle.pool.proofs.Heads.{Ascend-filter}

@@ -8,7 +8,7 @@ use Rattle.span.specs.State.{SpanState}
 use Rattle.span.specs.declared.id.SpanId.{SpanId}
 use Rattle.span.specs.declared.key.Key.{Key}
 use Rattle.groups.specs.Dead.{dead_guests, live_among, without_dead}
-use Rattle.groups.specs.Group.{paged_in, spans_in, spans_of}
+use Rattle.groups.specs.Group.{HaveGuestsOnce, paged_in, spans_in, spans_of}
 use Rattle.groups.specs.Shown.{shown_by}
 use Rattle.groups.specs.Sound.{AreSoundGroups, AreStored, IsSoundGroup}
 use Rattle.groups.specs.Spans.{union_of}
@@ -18,7 +18,6 @@ use Rattle.groups.proofs.GroupSpans.{count-spans_remove, times}
 use Rattle.groups.proofs.Lists.{before-map, count-append, count-cons}
 use Rattle.groups.proofs.ShownGroups.{value-logged}
 use Rattle.pool.specs.Forgets.{gone_from, left_in, unpaged_in}
-use Rattle.pool.specs.Ranked.{HaveGuestsOnce}
 use Rattle.pool.specs.Sound.{IsSound}
 use Rattle.pool.specs.State.{PoolState, PooledState}
 use Rattle.pool.proofs.ForgottenGroups.{before-left}

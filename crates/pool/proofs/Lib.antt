@@ -12,6 +12,7 @@ pub mod Here
 pub mod InBoth
 pub mod Inserted
 pub mod KeptTable
+pub mod LeastLive
 pub mod Lifted
 pub mod LiveKeys
 pub mod Moving

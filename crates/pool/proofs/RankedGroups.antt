@@ -23,7 +23,7 @@ get-push (z ∷ xs) x (suc at) y there = elim (get-push xs x at y there) [
   | inr last ↦ inr (ap suc last.0, last.1)
 ]
 
-get-take : {X : Type 0} (xs : List X) (n at : ℕ) → at < n → slice_get (take n xs) at ≡ slice_get xs at
+pub get-take : {X : Type 0} (xs : List X) (n at : ℕ) → at < n → slice_get (take n xs) at ≡ slice_get xs at
 get-take xs zero at low = absurd (omega arith)
 get-take (x ∷ xs) (suc n) (suc at) low = get-take xs n at (omega arith)
 get-take xs n at low = refl

@@ -1,5 +1,5 @@
 -- Lists of the groups with few live slots.
-use Rattle.std.proofs.Common.{zero, suc, ℕ, ◌+◌, ◌≤◌, ◌<◌, ◌≡◌, ◌++◌, ◌∷◌, true, false, List, [], Some, length, map, take, slice_get, append_assoc, ap, arith, subst, sym, ◌∙◌, filter}
+use Rattle.std.proofs.Common.{zero, suc, ℕ, ◌+◌, ◌≤◌, ◌<◌, ◌≡◌, ◌++◌, ◌∷◌, Bool, true, false, List, [], Some, length, map, take, slice_get, append_assoc, ap, arith, refl, subst, sym, ◌∙◌, filter}
 use Rattle.std.specs.FinSet as set
 use Rattle.std.specs.List.{All}
 use Rattle.std.specs.List.Sorted.{IsPermutation}
@@ -7,7 +7,7 @@ use Rattle.std.proofs.lemmas.List.{append-nil, map-append}
 use Rattle.std.proofs.lemmas.List.Elements.{All-append}
 use Rattle.std.proofs.lemmas.List.Sorted.{IsPermutation-append_comm, IsPermutation-append_left, IsPermutation-append_right, IsPermutation-map, IsPermutation-refl, IsPermutation-sym, IsPermutation-trans, length_permutation}
 use Rattle.span.specs.declared.entry.Entry.{Entry}
-use Rattle.groups.specs.Group.{summary}
+use Rattle.groups.specs.Group.{occupied, summary}
 use Rattle.pool.specs.Sparse.{AreParted, HaveSparsest}
 use Rattle.pool.specs.State.{PooledState}
 use Rattle.pool.specs.Ranked.{head_rank, in_order}
@@ -89,6 +89,16 @@ module _ (groups : List PooledState) (at : ℕ) (group : PooledState) (here : sl
 
   pub summaries-as_before : paged group ≡ false → map summary (filter paged (take at groups)) ≡ map summary (filter paged (take (at + 1) groups))
   summaries-as_before off = sym (ap (map summary) (paged-as_before groups at group here off))
+
+  -- a group in which too many slots are live is left out, if it has a page, and has no entry if it has none
+  pub AreParted-passed : (bound : ℕ) (found : List Entry) → bound ≤ set.len (occupied group) → AreParted bound (map summary (filter paged (take at groups))) found
+      → AreParted bound (map summary (filter paged (take (at + 1) groups))) found
+  AreParted-passed bound found many parted = by_test (paged group) refl
+    where
+      by_test : (b : Bool) → paged group ≡ b → AreParted bound (map summary (filter paged (take (at + 1) groups))) found
+      by_test true on = subst (λ (entries : List Entry). AreParted bound entries found) (summaries-more on)
+          (AreParted-left bound (map summary (filter paged (take at groups))) found (summary group) parted (omega (arith, many)))
+      by_test false off = subst (λ (entries : List Entry). AreParted bound entries found) (summaries-as_before off) parted
 
 -- those of a row are those in order
 pub HaveSparsest-in_order : (most : ℕ) (row : List PooledState) (found : List Entry) → HaveSparsest most (map summary (filter paged row)) found

@@ -1,16 +1,9 @@
 -- Groups and guests of the pool that can never be live again, which it forgets.
 use Rattle.std.specs.Prelude.{◌≡◌, ◌++◌, ℕ, List, filter, is_some, length, map, not}
 use Rattle.span.specs.State.{SpanState}
-use Rattle.groups.specs.Dead.{dead_among, dead_guests, live_among, without_dead}
-use Rattle.groups.specs.Directory.{Entries, entered, struck}
+use Rattle.groups.specs.Dead.{dead_guests, without_dead}
 use Rattle.groups.specs.Group.{paged_in, spans_in}
 use Rattle.pool.specs.State.{PoolState, PooledState}
-
--- the entries once the group has forgotten its guests in which no slot is live: they have none, and
--- those of the others say where these stand now
-abbrev pub entries_left : Entries → PooledState → Entries
-entries_left entries group = entered (struck entries (dead_among group.guests))
-    (live_among group.guests) group.head.id 1
 
 -- the groups that have no page, since none of their slots is live
 abbrev pub unpaged_in : List PooledState → List PooledState

@@ -26,9 +26,9 @@ HasAtPlace groups id place group = (index : ℕ) × (span : SpanState)
     × IsHere groups id index place group span
 
 -- this holds of the span at the place of the head's group
-abbrev pub OfSpanAt : List PooledState → SpanId → ℕ → (ℕ → PooledState → SpanState → Type 0)
+abbrev pub OfMember : List PooledState → SpanId → ℕ → (ℕ → PooledState → SpanState → Type 0)
     → Type 0
-OfSpanAt groups head place P = (index : ℕ) (group : PooledState) (span : SpanState)
+OfMember groups head place P = (index : ℕ) (group : PooledState) (span : SpanState)
     → IsHeadOf groups head index group → slice_get (spans_of group) place ≡ Some span
     → P index group span
 

@@ -2,7 +2,7 @@ pub mod Calls
 pub mod Forgets
 pub mod Groups
 pub mod Handover
-pub mod Kept
+pub mod Least
 pub mod Noted
 pub mod Ranked
 pub mod RanksKept
@@ -11,5 +11,6 @@ pub mod Shown
 pub mod Sound
 pub mod Sparse
 pub mod State
+pub mod StockKept
 pub mod TableKept
 pub mod Tabled

@@ -1,7 +1,6 @@
 -- Groups in a row, found by the ranks of their heads. No public clause cites this module.
-use Rattle.std.specs.Prelude.{suc, ◌≡◌, ◌≢◌, ◌≤◌, ℕ, if◌then◌else◌, List, [], ◌∷◌, Option, Some, IsSome, count_by, insert, nat_lt, slice_get}
-use Rattle.span.specs.declared.id.SpanId.{SpanId}
-use Rattle.span.specs.Ids.{rank, same_span}
+use Rattle.std.specs.Prelude.{suc, ◌≡◌, ◌≢◌, ℕ, if◌then◌else◌, List, [], ◌∷◌, Option, Some, IsSome, insert, nat_lt, slice_get}
+use Rattle.span.specs.Ids.{rank}
 use Rattle.pool.specs.State.{PooledState}
 
 -- how many of the first have a number below this one
@@ -45,11 +44,6 @@ pub record LetsGo (groups : List PooledState) (place : ℕ) (left : List PooledS
 abbrev pub HaveOwnHeads : List PooledState → Type 0
 HaveOwnHeads groups = (i j : ℕ) (a b : PooledState) → slice_get groups i ≡ Some a
     → slice_get groups j ≡ Some b → a.head.id ≡ b.head.id → i ≡ j
-
--- no id stands twice among the guests of a group
-abbrev pub HaveGuestsOnce : List PooledState → Type 0
-HaveGuestsOnce groups = (index : ℕ) (group : PooledState) → slice_get groups index ≡ Some group
-    → (id : SpanId) → count_by (λ span. same_span span.id id) group.guests ≤ 1
 
 -- what is left are the groups that have a page
 pub record KeepsPaged (groups left : List PooledState) : Type 0 where

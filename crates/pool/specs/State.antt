@@ -16,9 +16,13 @@ pub record PoolState : Type 0 where
   pub span_room : ℕ
   pub has_plan : Bool
 
--- a pool with no group
+-- a pool with no group, and with a plan or without
+abbrev pub no_groups : Bool → PoolState
+no_groups has_plan = record { groups = []; group_room = 0; span_room = 0; has_plan = has_plan }
+
+-- a pool with no group and no plan
 abbrev pub new_pool : PoolState
-new_pool = record { groups = []; group_room = 0; span_room = 0; has_plan = false }
+new_pool = no_groups false
 
 -- the group of the spans, with the page, if there is one
 abbrev pub group_of : SpansState → Option Words → PooledState

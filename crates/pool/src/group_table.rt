@@ -1,5 +1,5 @@
 // The groups of the pool, found by their heads.
-ghost use Rattle.std.specs.Prelude.{◌≡◌, ◌<◌, ◌≤◌, ◌-◌, ◌+◌, ◌++◌, ◌*◌, ◌↔◌, ℕ, [], IfOk, IfSome, IsSome, IsTrue, MatchOption, OnErr, OnOk, Some, length, map, max, slice_get, vec_capacity};
+ghost use Rattle.std.specs.Prelude.{◌≡◌, ◌<◌, ◌≤◌, ◌-◌, ◌+◌, ◌++◌, ◌*◌, ◌↔◌, ℕ, [], IfOk, IfSome, IsSome, IsTrue, MatchOption, OnErr, OnOk, Some, length, map, max, slice_get, swap_remove, vec_capacity};
 ghost use Rattle.std.specs.Bool.{OnTrue, OnFalse};
 ghost use Rattle.std.specs.FinMap as table;
 ghost use Rattle.std.specs.List.{Contains};
@@ -7,19 +7,19 @@ ghost use Rattle.span.specs.Ids.{rank};
 ghost use Rattle.span.specs.Log.{Holds};
 ghost use Rattle.span.specs.SpanLogs.{AreLegal, room_for_logs, span_of_log};
 ghost use Rattle.span.specs.State.{IsSettable};
-ghost use Rattle.groups.specs.Dead.{AreEntered, dead_among, live_among, without_dead};
-ghost use Rattle.groups.specs.Directory.{KnowsGuests, struck};
+ghost use Rattle.groups.specs.Dead.{AreEntered, dead_among, forgotten, live_among, without_dead};
+ghost use Rattle.groups.specs.Directory.{KnowsGuests, struck, with_entries};
 ghost use Rattle.groups.specs.FirstLive.{IsFirstAmong};
-ghost use Rattle.groups.specs.Group.{HasNoHead, paged_in, spans_in, spans_of, summary};
+ghost use Rattle.groups.specs.Group.{HasNoHead, HaveGuestsOnce, paged_in, spans_in, spans_of, summary};
 ghost use Rattle.groups.specs.Pages.{set_group};
 ghost use Rattle.groups.specs.Sound.{AreSoundGroups, IsSoundGroup};
 ghost use Rattle.groups.specs.Spans.{live_count, with_free_at};
 ghost use Rattle.pool.specs.Calls.{HasNoPage};
-ghost use Rattle.pool.specs.Forgets.{entries_left, left_in};
-ghost use Rattle.pool.specs.Groups.{FreesIn, HasHeadAt, Inserts, OfSpanAt, OnDone, Removes, with_group};
+ghost use Rattle.pool.specs.Forgets.{left_in};
+ghost use Rattle.pool.specs.Groups.{FreesIn, HasHeadAt, Inserts, OfMember, OnDone, Removes, with_group};
 ghost use Rattle.pool.specs.Handover.{HaveOneIn};
 ghost use Rattle.pool.specs.Noted.{AreNoted, HasNoPageAt, IsHeadOfFirstPaged, IsPagedHead};
-ghost use Rattle.pool.specs.Ranked.{AreFound, HaveGuestsOnce, HaveOwnHeads, KeepsPaged, LetsGo, head_rank, in_order};
+ghost use Rattle.pool.specs.Ranked.{AreFound, HaveOwnHeads, KeepsPaged, LetsGo, head_rank, in_order};
 ghost use Rattle.pool.specs.Sparse.{HaveSparsest};
 ghost use Rattle.pool.specs.State.{PooledState};
 ghost use Rattle.pool.specs.Tabled.{AreKept};
@@ -27,6 +27,7 @@ ghost use Rattle.span.specs.declared.limits.TheConstants.{ALL_IDS};
 ghost use Rattle.bitmap.specs.declared.bits.TheConstants.{SLOTS};
 
 use crate::in_both::have_one_in;
+use crate::least_live::{byte_of, give_back_bytes, note_bytes};
 use crate::pooled::Pooled;
 use crate::ranks::Ranks;
 use crate::sparse::sparse;
@@ -49,6 +50,8 @@ use std::marker::Model;
 pub(crate) struct GroupTable<L: Log> {
     // The groups, in no order.
     row: Vec<Pooled<L>>,
+    // For each of them, how many of its slots are live at the least.
+    least: Vec<u8>,
     // By the rank of a head, where in `row` its group stands.
     places: LateTable<usize>,
     // The ranks of the heads of all groups that have a page, and of some that have none or are
@@ -80,6 +83,7 @@ impl<L: Log> GroupTable<L> {
     {
         GroupTable {
             row: Vec::new(alloc),
+            least: Vec::new(alloc),
             places: LateTable::new(alloc),
             paged: Ranks::new(alloc),
             room: 0,
@@ -108,6 +112,7 @@ impl<L: Log> GroupTable<L> {
     {
         make_room(&mut self.paged, self.row.len(), more)?;
         self.row.reserve(more)?;
+        self.least.reserve(more)?;
         self.places.reserve(more)?;
         self.room = self.room.max(more);
         Ok(())
@@ -120,9 +125,11 @@ impl<L: Log> GroupTable<L> {
         ensures { Inserts self.old group self.new }
     {
         note(&mut self.paged, &group);
+        let byte = byte_of(&group);
         let place = self.row.len();
         self.places.insert_reserved(group.head_id().rank(), place);
         self.row.push_reserved(group);
+        self.least.push_reserved(byte);
         self.room -= 1;
     }
 
@@ -134,7 +141,9 @@ impl<L: Log> GroupTable<L> {
             return None;
         };
         let group = let_go(&mut self.row, &mut self.places, place);
+        let _ = self.least.swap_remove(place);
         tidy(&mut self.row, &mut self.places, &mut self.paged, self.room);
+        give_back_bytes(&mut self.least, self.room);
         Some(group)
     }
 
@@ -157,12 +166,12 @@ impl<L: Log> GroupTable<L> {
     ) -> Result<bool, AllocError>
         requires { (group : PooledState) × HasHeadAt self.old.groups head group
             × (place < length (spans_of group)) × IsSoundGroup group }
-        ensures found { OfSpanAt self.old.groups head place (λ _ _ span. IfOk result
+        ensures found { OfMember self.old.groups head place (λ _ _ span. IfOk result
             (λ done. IsTrue done ↔ IsSettable span slot generation words.now)) }
-        ensures set { OfSpanAt self.old.groups head place (λ at group span. OnDone result (self.new
+        ensures set { OfMember self.old.groups head place (λ at group span. OnDone result (self.new
             ≡ with_group self.old at (set_group group place span slot generation words.now))) }
         ensures unknown { IfOk result (λ done. OnFalse done (self.new ≡ self.old)) }
-        ensures refused { OfSpanAt self.old.groups head place
+        ensures refused { OfMember self.old.groups head place
             (λ _ _ span. OnErr result (IsSettable span slot generation words.now)) }
         ensures err { OnErr result (self.new ≡ self.old) }
     {
@@ -184,16 +193,18 @@ impl<L: Log> GroupTable<L> {
     ) -> bool
         requires { (group : PooledState) × HasHeadAt self.old.groups head group
             × (place < length (spans_of group)) }
-        ensures found { OfSpanAt self.old.groups head place
+        ensures found { OfMember self.old.groups head place
             (λ _ _ span. IsTrue result ↔ Holds span.log slot generation) }
-        ensures freed { OfSpanAt self.old.groups head place (λ index group span. OnTrue result
+        ensures freed { OfMember self.old.groups head place (λ index group span. OnTrue result
             (FreesIn self.old index group place (with_free_at span slot generation) self.new)) }
         ensures unknown { OnFalse result (self.new ≡ self.old) }
     {
         let Some(at) = place_of(&self.places, head) else {
             unreachable!();
         };
-        self.row[at].free(alloc, place, slot, generation)
+        let freed = self.row[at].free(alloc, place, slot, generation);
+        self.least[at] = byte_of(&self.row[at]);
+        freed
     }
 
     /// The head of the group of lowest head that has a page. A rank whose group has none is looked
@@ -274,7 +285,7 @@ impl<L: Log> GroupTable<L> {
         ensures { IfOk result (λ list.
             HaveSparsest most (map summary (paged_in self.now.groups)) list.items) }
     {
-        sparse(self.row.as_slice(), alloc, most)
+        sparse(self.row.as_slice(), self.least.as_slice(), alloc, most)
     }
 }
 
@@ -309,6 +320,8 @@ impl GroupTable<Counted> {
         forget_all(&mut self.row, directory);
         drop_unpaged(&mut self.row, &mut self.places);
         tidy(&mut self.row, &mut self.places, &mut self.paged, self.room);
+        note_bytes(&mut self.least, self.row.as_slice());
+        give_back_bytes(&mut self.least, self.room);
     }
 }
 
@@ -328,6 +341,7 @@ fn let_go<L: Log>(
     requires within { place < length groups.old.items }
     requires found { AreFound groups.old.items (table.get places.old.entries) }
     ensures gone { slice_get groups.old.items place ≡ Some result }
+    ensures swapped { groups.new.items ≡ swap_remove groups.old.items place result }
     ensures left { LetsGo groups.old.items place groups.new.items }
     ensures lower { (at : ℕ) → at < place
         → slice_get groups.new.items at ≡ slice_get groups.old.items at }
@@ -500,7 +514,7 @@ fn forget_in(group: &mut Pooled<Counted>, directory: &mut Directory)
         (live_among group.old.guests) }
     ensures group { group.new ≡ without_dead group.old }
     ensures directory { directory.new
-        ≡ record directory.old { entries = entries_left directory.old.entries group.old } }
+        ≡ with_entries directory.old (forgotten directory.old.entries group.old) }
 {
     directory.strike_dead(group.spans().guests());
     group.forget_guests();

@@ -25,6 +25,9 @@
 //!
 //! No call on a key or a group walks the pool: a table says where the group of each head stands,
 //! and a heap has the heads whose groups have a page, the lowest first.
+//! A byte beside each group says how many of its slots are live at the least, so that a mark of
+//! some reads few groups. All of this stands in a box, which comes with the first room for a group
+//! and goes with the last one: until then a pool takes three words of its owner.
 //!
 //! The public fact of the crate is that a pool is a plain map of keys: [`Pool::get`], [`Pool::set`]
 //! and [`Pool::free`] answer and do what a map would (`shown` in `specs/Shown.antt`), and
@@ -50,10 +53,12 @@
 mod error;
 mod group_table;
 mod in_both;
+mod least_live;
 mod pool;
 mod pooled;
 mod ranks;
 mod sparse;
+mod stock;
 mod walks;
 
 pub use error::{AdoptError, ReceiveError};

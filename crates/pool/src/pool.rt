@@ -1,13 +1,13 @@
 // The pool and its calls on keys.
-ghost use Rattle.std.specs.Prelude.{◌≡◌, ◌<◌, ◌≤◌, ◌*◌, ◌↔◌, map, length, IsTrue, IfOk, MatchOption, false, true, if◌then◌else◌, is_some};
+ghost use Rattle.std.specs.Prelude.{◌≡◌, ◌<◌, ◌≤◌, ◌*◌, ◌↔◌, map, length, IsTrue, IfOk, MatchOption, false, true, is_some};
 ghost use Rattle.std.specs.List.Sorted.{IsStrictlyIncreasing};
 ghost use Rattle.span.specs.FirstLive.{HasNoneBetween, IsFirstLive};
 ghost use Rattle.span.specs.Ids.{rank};
 ghost use Rattle.span.specs.Order.{HasNoneFrom, IsFirstFrom};
-ghost use Rattle.span.specs.PlainMap as plain;
 ghost use Rattle.shard.specs.Calls.{FindsObject, value_found, was_freed};
+ghost use Rattle.groups.specs.Shown.{without_if};
 ghost use Rattle.pool.specs.Calls.{Frees, Gets};
-ghost use Rattle.pool.specs.Groups.{HasAtPlace};
+ghost use Rattle.pool.specs.Groups.{HasAtPlace, HasHeadAt};
 ghost use Rattle.pool.specs.Shown.{shown};
 ghost use Rattle.pool.specs.Sound.{IsSound};
 ghost use Rattle.pool.specs.Sparse.{HaveSparsest};
@@ -16,9 +16,8 @@ ghost use Rattle.groups.specs.Group.{HasNoHead, IsElsewhere, live_in, summary};
 ghost use Rattle.span.specs.declared.limits.TheConstants.{ALL_IDS};
 ghost use Rattle.bitmap.specs.declared.bits.TheConstants.{SLOTS};
 
-use crate::group_table::GroupTable;
 use crate::pooled::Pooled;
-use groups::Directory;
+use crate::stock::Stock;
 use shard::{Found, Freed};
 use span::names::{Entry, Key, SpanId};
 use span::spans::{Kept, Log};
@@ -37,27 +36,24 @@ mod retiring;
 #[derive(Drop)]
 pub struct Pool<L: Log = Kept> {
     alloc: Global,
-    groups: GroupTable<L>,
-    directory: Directory,
-    // For how many more groups room is reserved, and for how many more spans.
-    group_room: usize,
-    span_room: usize,
+    // The groups and all that is kept of them, once room for a group was reserved.
+    stock: Option<Box<Stock<L>>>,
+    // Whether a plan of folds is open. If there is a box, that says it.
     has_plan: bool,
 }
 
 impl<L: Log> Model for Pool<L> {
     ghost use Rattle.pool.specs.State.{PoolState};
     ghost use Rattle.std.specs.Coded.{codes};
+    ghost use Rattle.std.specs.Prelude.{option_map, unwrap_or};
+    ghost use Rattle.pool.specs.State.{no_groups};
 
     ghost Value = { PoolState };
 
     ghost coded = { Prim.hlevel codes };
 
-    ghost use Rattle.pool.specs.Kept.{state_of, IsKept};
-
-    ghost view = { state_of };
-
-    ghost invariant = { IsKept };
+    ghost view = { λ p. unwrap_or (option_map (λ stock. stock.value) p.stock)
+        (no_groups p.has_plan) };
 }
 
 impl Pool<Kept> {
@@ -79,10 +75,7 @@ impl<L: Log> Pool<L> {
     {
         Pool {
             alloc,
-            groups: GroupTable::new(alloc),
-            directory: Directory::new(alloc),
-            group_room: 0,
-            span_room: 0,
+            stock: None,
             has_plan: false,
         }
     }
@@ -91,14 +84,20 @@ impl<L: Log> Pool<L> {
     pub fn len(&self) -> usize
         ensures { result ≡ length self.now.groups }
     {
-        self.groups.len()
+        match &self.stock {
+            Some(stock) => stock.len(),
+            None => 0,
+        }
     }
 
     /// How many pages it has: one for each group with a live slot.
     pub fn pages(&self) -> usize
         ensures { result ≡ length (paged_groups self.now) }
     {
-        self.groups.pages()
+        match &self.stock {
+            Some(stock) => stock.pages(),
+            None => 0,
+        }
     }
 
     /// Says that a plan of folds is open, so that no group is adopted until it is closed. It takes
@@ -107,7 +106,10 @@ impl<L: Log> Pool<L> {
         ensures opened { self.new ≡ record self.old { has_plan = true } }
         ensures sound { IsSound self.new }
     {
-        self.has_plan = true;
+        match &mut self.stock {
+            Some(stock) => stock.set_plan(true),
+            None => self.has_plan = true,
+        }
     }
 
     /// Says that no plan is open. It takes no memory.
@@ -115,14 +117,20 @@ impl<L: Log> Pool<L> {
         ensures closed { self.new ≡ record self.old { has_plan = false } }
         ensures sound { IsSound self.new }
     {
-        self.has_plan = false;
+        match &mut self.stock {
+            Some(stock) => stock.set_plan(false),
+            None => self.has_plan = false,
+        }
     }
 
     /// Whether a plan of folds is open.
     pub fn has_plan(&self) -> bool
         ensures { result ≡ self.now.has_plan }
     {
-        self.has_plan
+        match &self.stock {
+            Some(stock) => stock.has_plan(),
+            None => self.has_plan,
+        }
     }
 
     /// How many keys are live in it.
@@ -131,7 +139,10 @@ impl<L: Log> Pool<L> {
         ensures at_most { result ≤ SLOTS * length self.now.groups }
         ensures groups { length self.now.groups ≤ ALL_IDS }
     {
-        self.groups.live()
+        match &self.stock {
+            Some(stock) => stock.live(),
+            None => 0,
+        }
     }
 
     /// Each group that has a page, by ascending head: its head, its class and the slots that are
@@ -146,7 +157,10 @@ impl<L: Log> Pool<L> {
             (paged_groups self.now)) }
         ensures sound { IsSound self.now }
     {
-        self.groups.summaries(self.alloc)
+        match &self.stock {
+            Some(stock) => stock.groups(),
+            None => Ok(Vec::new(self.alloc)),
+        }
     }
 
     /// At least `most` of the groups that have a page, or all if there are no more, in no order.
@@ -162,7 +176,10 @@ impl<L: Log> Pool<L> {
             (paged_groups self.now)) }
         ensures sound { IsSound self.now }
     {
-        self.groups.sparse(self.alloc, most)
+        match &self.stock {
+            Some(stock) => stock.sparse_groups(most),
+            None => Ok(Vec::new(self.alloc)),
+        }
     }
 
     /// Whether it has a span of this id.
@@ -197,21 +214,14 @@ impl<L: Log> Pool<L> {
     pub fn free(&mut self, key: &Key) -> Freed
         ensures step { Frees self.old key.now result self.new }
         ensures found { was_freed result ≡ is_some ((shown self.old).value_of key.now) }
-        ensures plain { shown self.new ≡ (if was_freed result then plain.without
-            (shown self.old) key.now else shown self.old) }
+        ensures plain { shown self.new
+            ≡ without_if (was_freed result) (shown self.old) key.now }
         ensures sound { IsSound self.new }
     {
-        let Some((group, place)) = self.find(key.span) else {
+        let Some(stock) = &mut self.stock else {
             return Freed::NotHere;
         };
-        let head = group.head_id();
-        let at = group.span_at(place).changes();
-        if !self
-            .groups
-            .free(self.alloc, head, place, key.slot, key.generation) {
-            return Freed::No(at);
-        }
-        Freed::Yes(at)
+        stock.free(key)
     }
 
     /// The key of the span's lowest live slot from this one on, if one is live here. It takes no
@@ -234,33 +244,47 @@ impl<L: Log> Pool<L> {
             (IsFirstLive (shown self.now) (rank from)) }
         ensures sound { IsSound self.now }
     {
-        self.groups.first_live(from)
+        match &self.stock {
+            Some(stock) => stock.first_live(from),
+            None => None,
+        }
     }
 
-    // The group that the span of the id stands in, and its place there. Most are heads, so these
-    // are asked for first.
+    // The group that the span of the id stands in, and its place there.
     #[inline(always)]
     fn find(&self, id: SpanId) -> Option<(&Pooled<L>, usize)>
         ensures sound { IsSound self.now }
         ensures place { MatchOption result (IsElsewhere self.now.groups id)
             (λ at. HasAtPlace self.now.groups id at.1 at.0.now) }
     {
-        let Some(group) = self.groups.get(id) else {
-            return self.find_guest(id);
-        };
-        Some((group, 0))
+        match &self.stock {
+            Some(stock) => stock.find(id),
+            None => None,
+        }
     }
 
-    // The same of a span that is no head here.
-    fn find_guest(&self, id: SpanId) -> Option<(&Pooled<L>, usize)>
-        requires { HasNoHead self.now.groups id }
-        ensures { MatchOption result (IsElsewhere self.now.groups id)
-            (λ at. HasAtPlace self.now.groups id at.1 at.0.now) }
+    // The group of the head, if it is here.
+    fn group(&self, head: SpanId) -> Option<&Pooled<L>>
+        ensures group { MatchOption result (HasNoHead self.now.groups head)
+            (λ group. HasHeadAt self.now.groups head group.now) }
+        ensures sound { IsSound self.now }
     {
-        let Some(at) = self.directory.place_of(id) else {
-            return None;
+        match &self.stock {
+            Some(stock) => stock.group(head),
+            None => None,
+        }
+    }
+
+    // Gives the box back if it has no group and no reserved room.
+    fn give_back(&mut self)
+        ensures { self.new ≡ self.old }
+    {
+        let Some(stock) = &self.stock else {
+            return;
         };
-        let group = self.groups.get(at.head)?;
-        Some((group, at.place))
+        if stock.is_unused() {
+            self.has_plan = stock.has_plan();
+            self.stock = None;
+        }
     }
 }

@@ -1,6 +1,7 @@
 // The groups with the fewest live slots, of which a mark of some takes so many.
-ghost use Rattle.std.specs.Prelude.{◌≤◌, ◌++◌, ◌∷◌, [], List, IfOk, map};
+ghost use Rattle.std.specs.Prelude.{◌≡◌, ◌≤◌, ◌++◌, ◌∷◌, [], List, IfOk, length, map};
 ghost use Rattle.groups.specs.Group.{paged_in, summary};
+ghost use Rattle.pool.specs.Least.{KnowsLeast};
 ghost use Rattle.pool.specs.Sparse.{AreParted, HaveSparsest};
 ghost use Rattle.span.specs.declared.entry.Entry.{Entry};
 
@@ -13,16 +14,20 @@ use std::alloc::{AllocError, Global};
 
 /// At least `most` of those that have a page, or all if there are no more, in no order. None has
 /// more live slots than one that is left out. It guesses how many live slots the sparsest have, and
-/// lists those with fewer; if these are too few, it lists all.
+/// lists those with fewer; if these are too few, it lists all. It reads no group whose byte says
+/// that it has too many.
 ///
 /// # Errors
 ///
 /// `AllocError` if the list could not grow.
 pub(crate) fn sparse<L: Log>(
     groups: &[Pooled<L>],
+    least: &[u8],
     alloc: Global,
     most: usize,
 ) -> Result<Vec<Entry>, AllocError>
+    requires known { KnowsLeast groups.now least.now }
+    requires bytes { length least.now ≡ length groups.now }
     ensures { IfOk result (λ list.
         HaveSparsest most (map summary (paged_in groups.now)) list.items) }
 {
@@ -30,7 +35,7 @@ pub(crate) fn sparse<L: Log>(
     let Some(bound) = sample(groups, step).likely_bound(most, step) else {
         return summaries(groups, alloc);
     };
-    let list = summaries_below(groups, alloc, bound, most)?;
+    let list = summaries_below(groups, least, alloc, bound, most)?;
     if list.len() < most {
         return summaries(groups, alloc);
     }

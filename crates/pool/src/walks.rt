@@ -5,6 +5,7 @@ ghost use Rattle.span.specs.Ids.{rank};
 ghost use Rattle.groups.specs.FirstLive.{IsFirstAmong};
 ghost use Rattle.groups.specs.Group.{paged_in, spans_in, summary};
 ghost use Rattle.groups.specs.Spans.{live_count};
+ghost use Rattle.pool.specs.Least.{KnowsLeast};
 ghost use Rattle.pool.specs.Sparse.{AreParted};
 ghost use Rattle.span.specs.declared.limits.TheConstants.{ALL_IDS};
 ghost use Rattle.bitmap.specs.declared.bits.TheConstants.{SLOTS};
@@ -77,22 +78,30 @@ pub(crate) fn summaries<L: Log>(
 }
 
 /// Those that have a page and fewer live slots than the bound, told as by [`summaries`]. Of those
-/// that have one fewer it takes none once there are `most`.
+/// that have one fewer it takes none once there are `most`. A group whose byte says that it has too
+/// many live slots is not read.
 ///
 /// # Errors
 ///
 /// `AllocError` if the list could not grow.
 pub(crate) fn summaries_below<L: Log>(
     groups: &[Pooled<L>],
+    least: &[u8],
     alloc: Global,
     bound: usize,
     most: usize,
 ) -> Result<Vec<Entry>, AllocError>
+    requires known { KnowsLeast groups.now least.now }
+    requires bytes { length least.now ≡ length groups.now }
     ensures { IfOk result (λ list.
         AreParted bound (map summary (paged_in groups.now)) list.items) }
 {
     let mut list = Vec::new(alloc);
-    for group in groups {
+    for index in 0..groups.len() {
+        if usize::from(least[index]) >= bound {
+            continue;
+        }
+        let group = &groups[index];
         if group.is_paged() {
             push_below(&mut list, group.entry(), bound, most)?;
         }

@@ -54,9 +54,8 @@ pub struct LateWitness {
 }
 
 impl Model for LateWitness {
-    ghost use Rattle.std.specs.Prelude.{Option, option_map};
+    ghost use Rattle.std.specs.Prelude.{None, Option, option_map, unwrap_or};
     ghost use Rattle.teurlaks_c.specs.declared.held.Witness.{Witness};
-    ghost use Rattle.teurlaks_c.specs.LateWitness.{witness_in};
     ghost use Rattle.std.specs.Coded.{codes};
     ghost use Rattle.teurlaks_c.specs.contracts.held.Witness as witness;
 
@@ -64,7 +63,7 @@ impl Model for LateWitness {
 
     ghost coded = { Prim.hlevel (codes, witness.the_row.coded) };
 
-    ghost view = { λ late. witness_in (option_map (λ room. room.value) late.room) };
+    ghost view = { λ late. unwrap_or (option_map (λ room. room.value) late.room) None };
 }
 
 impl LateWitness {

@@ -20,7 +20,7 @@ impl<L: Log> Core<L> {
             (λ _. reply.Sent) result self.new }
         ensures sound { IsSound self.new }
     {
-        self.rings.send(worker, key)
+        self.rings.send(self.alloc, worker, key)
     }
 
     // Takes the oldest key from the ring from this worker to this shard, if one waits there.

@@ -52,7 +52,7 @@ impl<L: Log> Core<L> {
         None
     }
 
-    /// The allocator of its memory.
+    /// The allocator of its memory. No clause says which: the type has one value alone.
     pub fn alloc(&self) -> Global {
         self.alloc
     }

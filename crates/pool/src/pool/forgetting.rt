@@ -24,9 +24,11 @@ impl Pool<Counted> {
             ≡ (shown self.old).value_of key }
         ensures sound { IsSound self.new }
     {
-        let before = self.span_count();
-        self.groups.forget(&mut self.directory);
-        self.directory.give_back();
-        before - self.span_count()
+        let Some(stock) = &mut self.stock else {
+            return 0;
+        };
+        let count = stock.forget();
+        self.give_back();
+        count
     }
 }

@@ -119,10 +119,11 @@ impl<L: Log> Pool<L> {
         ensures has { IsTrue result ↔ IsInPool self.now shard.now }
         ensures sound { IsSound self.now }
     {
-        // For the prover: the pool is sound.
-        let _ = &self.groups;
-        if self.groups.len() < shard.len() {
-            return self.groups.have_one_in(shard);
+        let Some(stock) = &self.stock else {
+            return false;
+        };
+        if stock.len() < shard.len() {
+            return stock.has_one_in(shard);
         }
         self.has_any_of(shard)
     }
@@ -231,7 +232,7 @@ impl<L: Log> Pool<L> {
         if self.lowest_would_double(shard, head) {
             return Err(AdoptError::Doubled);
         }
-        if self.has_plan {
+        if self.has_plan() {
             return Err(AdoptError::PlanOpen);
         }
         Ok(head)
@@ -242,7 +243,7 @@ impl<L: Log> Pool<L> {
         ensures { result
             ≡ (if self.now.has_plan then AdoptError.PlanOpen else AdoptError.NothingToAdopt) }
     {
-        if self.has_plan {
+        if self.has_plan() {
             AdoptError::PlanOpen
         } else {
             AdoptError::NothingToAdopt
@@ -255,7 +256,10 @@ impl<L: Log> Pool<L> {
         ensures same { self.new ≡ self.old }
         ensures sound { IsSound self.old }
     {
-        self.groups.lowest_paged()
+        let Some(stock) = &mut self.stock else {
+            return None;
+        };
+        stock.lowest_paged()
     }
 
     /// Whether a span of the group of the head is in the shard already, or one that it may yet
@@ -264,7 +268,7 @@ impl<L: Log> Pool<L> {
         ensures doubles { IsTrue result ↔ WouldDouble self.now shard.now head }
         ensures sound { IsSound self.now }
     {
-        let Some(group) = self.groups.get(head) else {
+        let Some(group) = self.group(head) else {
             return false;
         };
         is_doubled(shard, group.spans())
@@ -317,7 +321,7 @@ impl<L: Log> Pool<L> {
             → result ≡ length (spans_of group) }
         ensures sound { IsSound self.now }
     {
-        let Some(group) = self.groups.get(head) else {
+        let Some(group) = self.group(head) else {
             unreachable!();
         };
         group.len()

@@ -13,7 +13,10 @@ impl<L: Log> Pool<L> {
         ensures count { result ≡ length (spans_in self.now.groups) }
         ensures at_most { result ≤ ALL_IDS }
     {
-        self.groups.span_count()
+        match &self.stock {
+            Some(stock) => stock.span_count(),
+            None => 0,
+        }
     }
 }
 
@@ -29,6 +32,8 @@ impl Pool<Kept> {
         ensures room { room_for_logs logs.old ≡ room_for_logs logs.new + length
             (spans_in self.groups) }
     {
-        self.groups.into_logs(logs);
+        if let Some(stock) = self.stock {
+            Box::into_inner(stock).into_logs(logs);
+        }
     }
 }

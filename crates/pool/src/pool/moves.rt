@@ -1,16 +1,13 @@
 // Groups that come and go whole.
-ghost use Rattle.std.specs.Prelude.{◌≡◌, ◌≢◌, ◌+◌, ◌<◌, ◌≤◌, ℕ, List, None, Some, IfSome, IsSome, MatchOption, OnErr, OnOk, length, option_map};
-ghost use Rattle.std.specs.FinSet as set;
-ghost use Rattle.page.specs.Words.{IsInObjects};
-ghost use Rattle.groups.specs.Spans.{all_spans, union_of};
+ghost use Rattle.std.specs.Prelude.{◌≡◌, IfOk, MatchOption, OnErr, OnOk};
 ghost use Rattle.pool.specs.Calls.{IsBriefHere, Lifts, MayTakeIn, TakesIn, with_room, with_rooms};
 ghost use Rattle.groups.specs.Group.{HasNoHead, HasNoMember, IsMemberAt};
 ghost use Rattle.pool.specs.Sound.{IsSound};
+ghost use Rattle.pool.specs.State.{no_groups};
 
 use super::Pool;
-use crate::pooled::Pooled;
-use groups::{Brief, Spans, Whole};
-use page::MaybePage;
+use crate::stock::Stock;
+use groups::{Brief, Whole};
 use span::names::SpanId;
 use span::spans::Log;
 use std::alloc::{AllocError, Global};
@@ -22,7 +19,7 @@ impl<L: Log> Pool<L> {
             (IsBriefHere self.now.groups head) }
         ensures sound { IsSound self.now }
     {
-        let group = self.groups.get(head)?;
+        let group = self.group(head)?;
         Some(group.brief())
     }
 
@@ -32,7 +29,7 @@ impl<L: Log> Pool<L> {
         ensures { MatchOption result (HasNoMember self.now.groups head place)
             (IsMemberAt self.now.groups head place) }
     {
-        let group = self.groups.get(head)?;
+        let group = self.group(head)?;
         if place >= group.len() {
             return None;
         }
@@ -45,10 +42,12 @@ impl<L: Log> Pool<L> {
         ensures lifts { Lifts self.old head result self.new }
         ensures sound { IsSound self.new }
     {
-        let group = self.groups.remove(head)?;
-        let (spans, page) = group.into_parts();
-        self.directory.strike_all(spans.guests());
-        Some(Whole::new(spans, page))
+        let Some(stock) = &mut self.stock else {
+            return None;
+        };
+        let whole = stock.lift(head);
+        self.give_back();
+        whole
     }
 
     /// Makes room for one group of that many spans. Guests come to no group of the pool, so it
@@ -72,10 +71,12 @@ impl<L: Log> Pool<L> {
         ensures err { OnErr result (self.new ≡ self.old) }
         ensures sound { IsSound self.new }
     {
-        self.groups.reserve(groups)?;
-        self.directory.reserve(spans)?;
-        self.group_room = groups;
-        self.span_room = spans;
+        if let Some(stock) = &mut self.stock {
+            return stock.reserve(groups, spans);
+        }
+        if groups > 0 || spans > 0 {
+            self.stock = Some(stocked(self.alloc, self.has_plan, groups, spans)?);
+        }
         Ok(())
     }
 
@@ -86,26 +87,23 @@ impl<L: Log> Pool<L> {
         ensures takes { TakesIn self.old whole self.new }
         ensures sound { IsSound self.new }
     {
-        let (spans, page) = whole.into_parts();
-        let count = spans.len();
-        let head = spans.head_id();
-        let page = page_in_use(self.alloc, &spans, page);
-        self.directory.enter_from(0, spans.guests(), head);
-        self.groups.insert(Pooled::new(spans, page));
-        self.group_room -= 1;
-        self.span_room -= count;
+        match &mut self.stock {
+            Some(stock) => stock.take_in(whole),
+            None => unreachable!(),
+        }
     }
 }
 
-// The page, where one of the spans' slots is live; else it goes.
-fn page_in_use<L: Log>(alloc: Global, spans: &Spans<L>, page: MaybePage) -> MaybePage
-    requires { IsInObjects spans.now.head.class page.room }
-    ensures emptied { union_of (all_spans spans.now) ≡ set.empty → result.page ≡ None }
-    ensures live { union_of (all_spans spans.now) ≢ set.empty → result.page ≡ page.page }
-    ensures whole { IsInObjects spans.now.head.class result.room }
+// No group, with room for so many that have so many spans together.
+fn stocked<L: Log>(
+    alloc: Global,
+    has_plan: bool,
+    groups: usize,
+    spans: usize,
+) -> Result<Box<Stock<L>>, AllocError>
+    ensures { IfOk result (λ stock. stock.value ≡ with_rooms (no_groups has_plan) groups spans) }
 {
-    if spans.occupied().lowest().is_none() {
-        return MaybePage::none(alloc);
-    }
-    page
+    let mut stock = Stock::new(alloc, has_plan);
+    stock.reserve(groups, spans)?;
+    Ok(Box::new(alloc, stock)?)
 }

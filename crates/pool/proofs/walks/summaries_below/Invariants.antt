@@ -4,5 +4,5 @@ use Rattle.pool.specs.Sparse.{AreParted}
 use Rattle.pool.proofs.Walked.{paged}
 use Rattle.pool.proofs.walks.summaries_below.Given as goal
 
-abbrev pub invariant-loop-group : goal.invariant-loop-group
-invariant-loop-group g l = AreParted l.bound (map summary (filter paged (take l.group-index l.groups))) l.list.items
+abbrev pub invariant-loop-index : goal.invariant-loop-index
+invariant-loop-index g l = AreParted l.bound (map summary (filter paged (take l.index l.groups))) l.list.items

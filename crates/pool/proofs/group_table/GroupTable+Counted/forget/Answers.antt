@@ -1,4 +1,4 @@
-use Rattle.std.proofs.Common.{◌≡◌, ◌∙◌, List, ap, arith, length, subst, sym}
+use Rattle.std.proofs.Common.{◌≡◌, ◌∙◌, ℕ, List, ap, arith, length, subst, sym}
 use Rattle.std.specs.FinMap as table
 use Rattle.std.proofs.lemmas.List.{length-map}
 use Rattle.groups.specs.Dead.{without_dead}
@@ -7,7 +7,8 @@ use Rattle.groups.specs.Sound.{AreSoundGroups}
 use Rattle.pool.specs.Forgets.{left_in}
 use Rattle.pool.specs.Groups.{GroupsState}
 use Rattle.pool.specs.Noted.{AreNoted}
-use Rattle.pool.specs.Ranked.{AreFound, HaveGuestsOnce, KeepsPaged, in_order}
+use Rattle.groups.specs.Group.{HaveGuestsOnce}
+use Rattle.pool.specs.Ranked.{AreFound, KeepsPaged, in_order}
 use Rattle.pool.specs.State.{PooledState}
 use Rattle.pool.proofs.ForgottenGroups.{AreFound-without_dead, AreNoted-without_dead, HaveGuestsOnce-row, HaveOwnHeads-found, KnowsGuests-in_order, KnowsGuests-left, KnowsGuests-row, in_order-left_in, in_order-without_dead}
 use Rattle.pool.proofs.NotedRanks.{AreNoted-stood}
@@ -44,11 +45,21 @@ tidy-requires c =
       all_in_heap = omega (arith, c.self.invariant.kept.all_in_heap, fewer, long, as_many);
     }
 
+-- each group that is left has a byte
+as_many : (c : goal.After-give_back_bytes) → length c.give_back_bytes.new.least.items ≡ length c.tidy.new.row.items
+as_many c = ap (λ (ns : List ℕ). length ns) c.give_back_bytes.ensures.same ∙ c.note_bytes.ensures.len ∙ ap (λ (gs : List PooledState). length gs) c.as_slice.ensures.value
+
 pub invariant_of-self : goal.invariant_of-self
-invariant_of-self c = record { kept = c.tidy.ensures.kept; few = c.tidy.ensures.few }
+invariant_of-self c = record {
+  kept = c.tidy.ensures.kept;
+  few = c.tidy.ensures.few;
+  known = rw (c.give_back_bytes.ensures.same, ← c.as_slice.ensures.value) c.note_bytes.ensures.known;
+  bytes = as_many c;
+  in_bytes = omega (arith, c.give_back_bytes.ensures.room, as_many c);
+}
 
 -- the groups that are left
-left : (c : goal.After-tidy) → in_order c.tidy.new.row.items ≡ left_in (in_order c.self.inside.row.items)
+left : (c : goal.After-give_back_bytes) → in_order c.tidy.new.row.items ≡ left_in (in_order c.self.inside.row.items)
 left c = ap in_order c.tidy.ensures.same
     ∙ in_order-left_in c.self.inside.row.items (table.get c.self.inside.places.entries) c.self.invariant.kept.found c.drop_unpaged.new.groups.items
     (table.get c.drop_unpaged.new.places.entries) c.drop_unpaged.ensures.found

@@ -7,6 +7,7 @@ use Rattle.pool.specs.Groups.{GroupsState}
 use Rattle.pool.specs.Noted.{AreNoted}
 use Rattle.pool.specs.Ranked.{AreFound, in_order}
 use Rattle.pool.specs.State.{PooledState}
+use Rattle.pool.proofs.LeastLive.{KnowsLeast-push}
 use Rattle.pool.proofs.NotedRanks.{AreNoted-push}
 use Rattle.pool.proofs.RankedGroups.{AreFound-push, in_order-push, its}
 use Rattle.pool.proofs.group_table.GroupTable.insert.Goals as goal
@@ -33,6 +34,27 @@ invariant_of-self g c =
         all_in_heap = omega (arith, some, c.push_reserved.ensures.len, c.push_reserved.new.self.ok.0, c.self.inside.row.ok.0, c.note.ensures.capacity, c.self.invariant.kept.all_in_heap);
       };
       few = omega (arith, c.push_reserved.ensures.len, c.push_reserved.new.self.ok.0, c.self.inside.row.ok.0, c.note.ensures.few, c.self.invariant.few);
+      known = rw (c.push_reserved.ensures.items, c.push_reserved-2.ensures.items)
+          (KnowsLeast-push row c.self.inside.least.items c.self.invariant.known group c.byte_of-byte.result c.self.invariant.bytes c.byte_of-byte.ensures);
+      bytes = omega (
+        arith,
+        c.self.invariant.bytes,
+        c.push_reserved.ensures.len,
+        c.push_reserved.new.self.ok.0,
+        c.self.inside.row.ok.0,
+        c.push_reserved-2.ensures.len,
+        c.push_reserved-2.new.self.ok.0,
+        c.self.inside.least.ok.0,
+      );
+      in_bytes = omega (
+        arith,
+        some,
+        c.self.invariant.in_bytes,
+        c.push_reserved.ensures.len,
+        c.push_reserved.new.self.ok.0,
+        c.self.inside.row.ok.0,
+        c.push_reserved-2.ensures.capacity,
+      );
     }
 
 pub returns : goal.returns

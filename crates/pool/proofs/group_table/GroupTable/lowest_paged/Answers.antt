@@ -19,6 +19,9 @@ invariant_of-self g c =
         all_in_heap = omega (arith, kept.all_in_heap, c.lowest_paged.ensures.capacity);
       };
       few = omega (arith, c.self.invariant.few, c.lowest_paged.ensures.fewer);
+      known = c.self.invariant.known;
+      bytes = c.self.invariant.bytes;
+      in_bytes = c.self.invariant.in_bytes;
     }
 
 pub returns-clause-lowest : goal.returns-clause-lowest

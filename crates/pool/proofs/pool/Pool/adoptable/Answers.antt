@@ -21,19 +21,19 @@ returns-clause-doubled g c = (
   (λ causes. absurd (false≢true (c.if-lowest_would_double.ensures.1 (subst (λ (p : PoolState). IsDoubled p c.args.shard.now) (sym c.lowest_paged-lowest.ensures.same) causes.2)))),
 )
 
-pub returns-then-self-clause-doubled : goal.returns-then-self-clause-doubled
-returns-then-self-clause-doubled g c = (
+pub returns-then-has_plan-clause-doubled : goal.returns-then-has_plan-clause-doubled
+returns-then-has_plan-clause-doubled g c = (
   (λ said. absurd cc),
   (λ causes. absurd (false≢true (c.if-lowest_would_double.ensures.1 (subst (λ (p : PoolState). IsDoubled p c.args.shard.now) (sym c.lowest_paged-lowest.ensures.same) causes.2)))),
 )
 
-pub returns-then-self-clause-plan_open : goal.returns-then-self-clause-plan_open
-returns-then-self-clause-plan_open g c = (
+pub returns-then-has_plan-clause-plan_open : goal.returns-then-has_plan-clause-plan_open
+returns-then-has_plan-clause-plan_open g c = (
   (λ said. (
     (λ full. absurd (false≢true (c.if-is_full.ensures.1 full))),
     sym c.if-ended.ensures.ended,
     (λ doubled. false≢true (c.if-lowest_would_double.ensures.1 (subst (λ (p : PoolState). IsDoubled p c.args.shard.now) (sym c.lowest_paged-lowest.ensures.same) doubled))),
-    ap (λ (p : PoolState). p.has_plan) (sym (c.self.view_is ∙ c.lowest_paged-lowest.ensures.same)) ∙ c.if-self.true,
+    ap (λ (p : PoolState). p.has_plan) (sym c.lowest_paged-lowest.ensures.same) ∙ sym c.if-has_plan.ensures,
   )),
   (λ causes. refl),
 )

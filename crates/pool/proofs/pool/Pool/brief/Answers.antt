@@ -1,12 +1,4 @@
-use Rattle.std.proofs.Common.{subst}
-use Rattle.pool.specs.State.{PoolState}
-use Rattle.groups.specs.Group.{IsHeadOf}
 use Rattle.pool.proofs.pool.Pool.brief.Goals as goal
 
 pub returns-clause-brief : goal.returns-clause-brief
-returns-clause-brief g c = let here = c.in_ok-group.ensures in (
-  here.0,
-  c.in_ok-group.group.now,
-  subst (λ (p : PoolState). IsHeadOf p.groups c.args.head here.0 c.in_ok-group.group.now) c.self.view_is here.1,
-  c.brief.ensures,
-)
+returns-clause-brief g c = let here = c.in_ok-group.ensures.group in (here.0, c.in_ok-group.group.now, here.1, c.brief.ensures)

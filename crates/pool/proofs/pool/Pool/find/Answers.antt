@@ -1,11 +1,11 @@
-use Rattle.std.proofs.Common.{refl, subst}
-use Rattle.pool.specs.State.{PoolState}
-use Rattle.pool.proofs.Here.{HasSpanAt}
+use Rattle.std.proofs.Common.{◌∙◌, MatchOption, subst, sym}
+use Rattle.groups.specs.Group.{IsElsewhere}
+use Rattle.pool.specs.Groups.{HasAtPlace}
+use Rattle.pool.specs.State.{PoolState, no_groups}
+use Rattle.pool.proofs.Started.{shown_in_box}
 use Rattle.pool.proofs.pool.Pool.find.Goals as goal
 
--- a head
-pub returns-clause-place : goal.returns-clause-place
-returns-clause-place g c =
-    let at = c.in-Some.ensures in
-    subst (λ (p : PoolState). HasSpanAt p.groups c.args.id 0 c.in-Some.group.now) c.self.view_is
-    (at.0, c.in-Some.group.now.head, record { group_is = at.1.here; span_is = refl; id_is = at.1.head_is })
+pub returns-in-Some-clause-place : goal.returns-in-Some-clause-place
+returns-in-Some-clause-place g c =
+    subst (λ (p : PoolState). MatchOption c.find.result (IsElsewhere p.groups c.args.id) (λ at. HasAtPlace p.groups c.args.id at.1 at.0.now))
+    (c.deref.ensures ∙ sym (shown_in_box (λ box. box.value) c.self.inside.stock (no_groups c.self.inside.has_plan) c.in-Some.stock c.in-Some.is) ∙ c.self.view_is) c.find.ensures.place

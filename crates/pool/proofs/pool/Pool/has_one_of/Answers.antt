@@ -1,16 +1,10 @@
-use Rattle.std.proofs.Common.{subst, ◌↔◌, IsTrue}
+use Rattle.std.proofs.Common.{◌↔◌, ◌∙◌, IsTrue, subst, sym}
 use Rattle.pool.specs.Calls.{IsInPool}
-use Rattle.pool.specs.Kept.{state_of}
-use Rattle.pool.specs.State.{PoolState}
-use Rattle.pool.proofs.InBoth.{Meets-flip}
+use Rattle.pool.specs.State.{PoolState, no_groups}
+use Rattle.pool.proofs.Started.{shown_in_box}
 use Rattle.pool.proofs.pool.Pool.has_one_of.Goals as goal
 
 pub returns-then-len-clause-has : goal.returns-then-len-clause-has
 returns-then-len-clause-has g c =
-    let ours = c.self.inside.groups.groups in
-    let theirs = c.args.shard.now.groups in
-    let both : IsTrue c.have_one_in.result ↔ IsInPool (state_of c.self.inside) c.args.shard.now = (
-      (λ t. Meets-flip ours theirs (c.have_one_in.ensures.0 t)),
-      (λ found. c.have_one_in.ensures.1 (Meets-flip theirs ours found)),
-    ) in
-    subst (λ (s : PoolState). IsTrue c.have_one_in.result ↔ IsInPool s c.args.shard.now) c.self.view_is both
+    subst (λ (p : PoolState). IsTrue c.has_one_in.result ↔ IsInPool p c.args.shard.now)
+    (c.deref-then-len.ensures ∙ sym (shown_in_box (λ box. box.value) c.self.inside.stock (no_groups c.self.inside.has_plan) c.in-Some.stock c.in-Some.is) ∙ c.self.view_is) c.has_one_in.ensures.has
