@@ -1,6 +1,7 @@
 pub mod Calls
 pub mod Filled
 pub mod Forgets
+pub mod Gathers
 pub mod Kept
 pub mod Lookups
 pub mod Made

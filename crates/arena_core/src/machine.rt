@@ -28,6 +28,7 @@ use std::marker::Model;
 mod deferred;
 mod ends;
 mod forgetting;
+mod gathering;
 mod keys;
 mod making;
 mod plans;
