@@ -375,6 +375,13 @@ struct teurlaks_trim_reply teurlaks_trim(struct teurlaks_handle *handle, uint32_
  * smaller table in the place of a larger one, which stays if there is none. */
 struct teurlaks_forget_reply teurlaks_forget(struct teurlaks_handle *handle);
 
+/* Moves each page of the shard to a block of memory that it asks for now: pages of less than 4,096
+ * bytes share pages of the system, and pages.c, which hands out its lowest free block first, gives
+ * back those that this empties. Call it for each shard after a compaction. No key changes.
+ * TEURLAKS_CONFIG where there is no such shard; TEURLAKS_OUT_OF_MEMORY where a block is refused:
+ * some pages have moved then. */
+uint32_t teurlaks_gather(struct teurlaks_handle *handle, uint32_t shard);
+
 /* Moves the pool's group of lowest head that has a page to the shard. Where several causes hold, it
  * is refused for the shard if there is one of this number (TEURLAKS_ENDED, TEURLAKS_PAGES_SPENT),
  * then with TEURLAKS_PLAN_OPEN, TEURLAKS_NOTHING_TO_ADOPT, and only then for a number of no shard,

@@ -231,6 +231,10 @@ TEURLAKS_INLINE uint32_t teurlaks_tested_compaction_give_up(struct teurlaks_hand
     return handle ? teurlaks_compaction_give_up(handle) : (uint32_t)TEURLAKS_NO_CORE;
 }
 
+TEURLAKS_INLINE uint32_t teurlaks_tested_gather(struct teurlaks_handle *handle, uint32_t shard) {
+    return handle ? teurlaks_gather(handle, shard) : TEURLAKS_NO_CORE;
+}
+
 TEURLAKS_INLINE struct teurlaks_adopt_reply teurlaks_tested_adopt(struct teurlaks_handle *handle,
                                                                   uint32_t shard) {
     struct teurlaks_adopt_reply none = {TEURLAKS_NO_CORE, {0, 0}};
@@ -497,6 +501,7 @@ teurlaks_tested_steward_totals(struct teurlaks_share_handle *handle) {
 #define teurlaks_begin teurlaks_tested_begin
 #define teurlaks_retire teurlaks_tested_retire
 #define teurlaks_forget teurlaks_tested_forget
+#define teurlaks_gather teurlaks_tested_gather
 #define teurlaks_trim teurlaks_tested_trim
 #define teurlaks_compact_within teurlaks_tested_compact_within
 #define teurlaks_compaction_step teurlaks_tested_compaction_step

@@ -279,6 +279,7 @@ extern "C" {
     pub fn teurlaks_retire(handle: *mut Handle, shard: u32, most: usize) -> RetireReply;
     pub fn teurlaks_trim(handle: *mut Handle, shard: u32) -> TrimReply;
     pub fn teurlaks_forget(handle: *mut Handle) -> ForgetReply;
+    pub fn teurlaks_gather(handle: *mut Handle, shard: u32) -> u32;
     pub fn teurlaks_compact_within(handle: *mut Handle, budget: usize) -> CompactReply;
     pub fn teurlaks_compaction_step(
         handle: *mut Handle,

@@ -12,7 +12,7 @@ use Rattle.arena_core.specs.declared.event.Event.TheVariants.{Put, Set, Free, En
 use Rattle.arena_core.specs.declared.reply.Reply.{Reply}
 use Rattle.arena_core.specs.declared.reply.Reply.TheVariants.{Issued, Replaced, Freed, ShardEnded, ShardBegun, Retired, Trimmed, Adopted, Marked, Stepped, NoPairLeft, Closed, NoPlan, Refused}
 use Rattle.arena_core.specs.declared.reply.Refusal.{Refusal}
-use Rattle.arena_core.specs.declared.reply.Refusal.TheVariants.{PlanOpen}
+use Rattle.arena_core.specs.declared.reply.Refusal.TheVariants.{Config, OutOfMemory, PlanOpen}
 use Rattle.arena_core.specs.Forgets.{Forgets as ForgetsIn}
 use Rattle.arena_core.specs.Plain.{ErasedStep}
 use Rattle.arena_core.specs.Sound.{IsSound}
@@ -253,6 +253,24 @@ pub record Forgets (old : Option Held) (says : ForgetReply) (new : Option Held) 
   pub same : after.last ≡ before.last
   pub compaction : after.compaction ≡ before.compaction
   pub says_is : SaysForgotten says answer
+
+-- what C reads of an answer that is no more than that it is done
+abbrev pub SaysDone : {T : Type 0} → ℕ → Result T Refusal → Type 0
+SaysDone says answer = MatchResult answer (λ nothing. says ≡ done)
+    (λ refusal. says ≡ refusal_status refusal)
+
+-- what C reads of a gathering of the shard, of so many: that it is done, or that memory was refused,
+-- and that there is no such shard exactly if there is none
+pub record SaysGathered (shards shard says : ℕ) : Type 0 where
+  pub there : shard < shards → (says ≡ done) ⊎ (says ≡ refusal_status OutOfMemory)
+  pub none : shards ≤ shard → says ≡ refusal_status Config
+
+-- the pages of the shard have moved, or not; nothing else has changed
+pub record Gathers (old : Option Held) (shard says : ℕ) (new : Option Held) : Type 0 where
+  pub before : Held
+  pub before_is : old ≡ Some before
+  pub same : new ≡ old
+  pub says_is : SaysGathered before.core.limits.shards shard says
 
 -- what C reads of the reply to an adoption
 abbrev pub SaysAdopted : AdoptReply → Reply → Type 0

@@ -93,7 +93,7 @@ pub use live_keys::teurlaks_contains;
 pub use many::{teurlaks_free_many, teurlaks_get_many, teurlaks_put_many};
 pub use meshing::{
     teurlaks_adopt, teurlaks_begin, teurlaks_certificate, teurlaks_close, teurlaks_end,
-    teurlaks_forget, teurlaks_mark, teurlaks_retire, teurlaks_step, teurlaks_trim,
+    teurlaks_forget, teurlaks_gather, teurlaks_mark, teurlaks_retire, teurlaks_step, teurlaks_trim,
 };
 pub use places::{teurlaks_seat_arena, teurlaks_steward_arena};
 pub use recorded_stewards::{

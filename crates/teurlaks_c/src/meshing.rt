@@ -5,7 +5,7 @@ ghost use Rattle.arena_core.specs.Sound.{IsSound};
 ghost use Rattle.arena_core.specs.Step.{CoreStep};
 ghost use Rattle.arena_core.specs.declared.reply.Reply.TheVariants as reply;
 ghost use Rattle.arena_core.specs.declared.event.Event.TheVariants as event;
-ghost use Rattle.teurlaks_c.specs.Calls.{Adopts, Begins, Closes, CountsOf, Ends, Forgets, IsOfMark, Keeps, Marks, Retires, SaysForgotten, SaysMarked, Steps, TakesStep, Tells, Trims, Writes};
+ghost use Rattle.teurlaks_c.specs.Calls.{Adopts, Begins, Closes, CountsOf, Ends, Forgets, Gathers, IsOfMark, Keeps, Marks, Retires, SaysDone, SaysForgotten, SaysMarked, Steps, TakesStep, Tells, Trims, Writes};
 ghost use Rattle.teurlaks_c.specs.Keys.{IsIdOf};
 ghost use Rattle.teurlaks_c.specs.Status.{no_core};
 
@@ -132,6 +132,22 @@ pub extern "C" fn teurlaks_forget(handle: &mut Handle) -> ForgetReply
         };
     };
     forgotten_reply(held.core.forget())
+}
+
+/// Moves each page of the shard to a block that it asks for now, and changes nothing else. Pages of
+/// fewer than 256 words share a page of the system; if the source of memory hands out its lowest
+/// free block first, this brings them together, so that other pages of the system go back. Refused
+/// with `CONFIG` exactly if there is no such shard, and with `OUT_OF_MEMORY` if a block is refused:
+/// some pages have moved then.
+#[unsafe(no_mangle)]
+pub extern "C" fn teurlaks_gather(handle: &mut Handle, shard: u32) -> u32
+    ensures live { IsSome handle.old.held → Gathers handle.old.held shard result handle.new.held }
+    ensures none { handle.old.held ≡ None → (result ≡ no_core) × (handle.new.held ≡ None) }
+{
+    let Some(held) = handle.held() else {
+        return NO_CORE;
+    };
+    gathered_status(held.core.gather(shard))
 }
 
 /// Moves the pool's group of lowest head that has a page to the shard, and answers its head.
@@ -263,6 +279,16 @@ pub extern "C" fn teurlaks_certificate(
         };
     };
     write_last(alloc, last, text)
+}
+
+// What C reads of a gathering.
+fn gathered_status(answer: Result<(), Refusal>) -> u32
+    ensures { SaysDone result answer }
+{
+    match answer {
+        Ok(()) => OK,
+        Err(refusal) => status_of(refusal),
+    }
 }
 
 // What C reads of what was forgotten.

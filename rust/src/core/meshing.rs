@@ -175,6 +175,22 @@ impl Core {
         Ok(count)
     }
 
+    /// Moves each page of the shard to a block of memory that it asks for now. Pages of less than
+    /// 4,096 bytes ([`Limits::slots`](crate::Limits::slots)) share pages of the system, and those that this empties
+    /// leave the process. [`Core::compact`] does so at its end. No key changes.
+    ///
+    /// # Errors
+    ///
+    /// - [`Refused::Config`]: there is no such shard;
+    /// - [`Refused::OutOfMemory`]: a block was refused. Some pages have moved then.
+    pub fn gather(&mut self, shard: u32) -> Result<(), Refused> {
+        if !self.is_open() {
+            return self.has_shard(shard);
+        }
+        // SAFETY: as in `insert`.
+        done(unsafe { raw::teurlaks_gather(&mut self.handle, shard) })
+    }
+
     /// Forgets the pages whose keys are all gone and that were folded onto others, or left to the
     /// pool, with the generations that are kept of them, and says how many. A page that its shard
     /// has opened stays known there, since it takes values again. Nothing else changes: keys of
