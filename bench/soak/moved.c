@@ -7,8 +7,8 @@
  * - retired: one page was retired, and its values are left out;
  * - compacted: the sparser half was retired, folded and adopted again with one value in 11 live;
  * - ten: the same after ten rounds of filling up and compaction;
- * - guest, pool, abroad, stale: those of the sparser half, if that was folded, lies in the pool, was
- *   adopted by another shard, or was freed and forgotten.
+ * - guest, pool, abroad, stale: those of the sparser half, if that was folded, lies in the pool,
+ *   was adopted by another shard, or was freed and forgotten.
  *
  * Else pages are full of 16 values of 256 zero bytes, and it prints microseconds of processor time,
  * the least of some rounds. WHAT is

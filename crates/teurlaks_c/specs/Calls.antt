@@ -259,8 +259,8 @@ abbrev pub SaysDone : {T : Type 0} → ℕ → Result T Refusal → Type 0
 SaysDone says answer = MatchResult answer (λ nothing. says ≡ done)
     (λ refusal. says ≡ refusal_status refusal)
 
--- what C reads of a gathering of the shard, of so many: that it is done, or that memory was refused,
--- and that there is no such shard exactly if there is none
+-- what C reads of a gathering of the shard, of so many: that it is done or that memory was refused,
+-- or that there is no such shard
 pub record SaysGathered (shards shard says : ℕ) : Type 0 where
   pub there : shard < shards → (says ≡ done) ⊎ (says ≡ refusal_status OutOfMemory)
   pub none : shards ≤ shard → says ≡ refusal_status Config
