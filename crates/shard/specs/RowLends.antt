@@ -15,4 +15,5 @@ with_group row index group = record row { items = slice_set row.items index grou
 module _ (L : RattleType) (log : Ghosts L.Denot) where
   -- once the borrow ends, the last group written through it stands at the index
   abbrev pub lends_group : MutBor RowState → ℕ → MutBor GroupState → Fml
-  lends_group row index group = Lends (the_row L log) (group_row L log) row group (with_group row.now index)
+  lends_group row index group =
+      Lends (the_row L log) (group_row L log) row group (with_group row.now index)

@@ -5,7 +5,7 @@ ghost use Rattle.std.specs.List.{swap};
 ghost use Rattle.groups.specs.Group.{Ascend};
 ghost use Rattle.shard.specs.Group.{GroupState};
 ghost use Rattle.shard.specs.Leaving.{has_left, has_stayed};
-ghost use Rattle.shard.specs.Parts.{IsParted};
+ghost use Rattle.shard.specs.Parts.{AreExchanged, AreLower, AreNotLower, IsParted};
 ghost use Rattle.shard.specs.Row.{IsOrder, in_order};
 ghost use Rattle.span.specs.Ids.{rank};
 ghost use Rattle.span.specs.declared.limits.TheConstants.{MOST_PAGES};
@@ -218,12 +218,8 @@ fn lower_heads<L: Log>(groups: &[Group<L>], order: &[u32], id: SpanId) -> usize
     requires order { IsOrder (length groups.now) order.now }
     requires ascend { Ascend (in_order groups.now order.now) }
     ensures within { result ≤ length order.now }
-    ensures lower { (other : ℕ) (group : GroupState) → other < result
-        → slice_get (in_order groups.now order.now) other ≡ Some group
-        → rank group.head.id < rank id }
-    ensures others { (other : ℕ) (group : GroupState) → result ≤ other
-        → slice_get (in_order groups.now order.now) other ≡ Some group
-        → rank id ≤ rank group.head.id }
+    ensures lower { AreLower (in_order groups.now order.now) id result }
+    ensures others { AreNotLower (in_order groups.now order.now) id result }
 {
     let mut low = 0;
     let mut high = order.len();
@@ -254,9 +250,7 @@ fn exchange<L: Log>(groups: &mut Vec<Group<L>>, order: &mut Vec<u32>, first: usi
     requires order { IsOrder (length groups.old.items) order.old.items }
     requires first { first < length order.old.items }
     requires second { second < length order.old.items }
-    ensures groups { (place other : ℕ) → slice_get order.old.items first ≡ Some place
-        → slice_get order.old.items second ≡ Some other
-        → groups.new.items ≡ swap groups.old.items place other }
+    ensures groups { AreExchanged order.old.items first second groups.old.items groups.new.items }
     ensures entries { order.new.items ≡ swap order.old.items first second }
     ensures order { IsOrder (length groups.new.items) order.new.items }
     ensures same { in_order groups.new.items order.new.items

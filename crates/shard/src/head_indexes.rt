@@ -358,8 +358,8 @@ fn note_heads<L: Log>(
     from: usize,
     number: u32,
 )
-    requires { AreReady number groups.now.items (record { base = base; entries = indexes.old.items })
-        from }
+    requires { AreReady number groups.now.items
+        (record { base = base; entries = indexes.old.items }) from }
     ensures known { KnowsHeads number groups.now.items
         (record { base = base; entries = indexes.new.items }) }
     ensures len { length indexes.new.items ≡ length indexes.old.items }

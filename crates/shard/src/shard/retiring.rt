@@ -31,8 +31,8 @@ pub struct LiveGroup {
 
 impl<L: Log> Shard<L> {
     /// Up to so many groups with a live key: those with the fewest first, and of those with as many
-    /// the one of lowest head. If few are asked for, most of the others are only looked at, or not even
-    /// that since [`Shard::least_live`] says that they have more.
+    /// the one of lowest head. If few are asked for, most of the others are only looked at, or not
+    /// even that if [`Shard::least_live`] says that they have more.
     ///
     /// # Errors
     ///
