@@ -68,7 +68,8 @@ impl<L: Log> Shard<L> {
         };
         let group = &mut self.groups[index];
         let at = group.span_at(0).changes();
-        let Some(Placed { key, is_full }) = group.put(self.alloc, class, self.slot_limit, words)? else {
+        let Some(Placed { key, is_full }) = group.put(self.alloc, class, self.slot_limit, words)?
+        else {
             return self.put_otherwise(class, words);
         };
         // A group that is full now leaves the set at once, by what is known of it in registers and
@@ -117,7 +118,12 @@ impl<L: Log> Shard<L> {
         while let Some(index) = self.rooms.lowest(class) {
             let group = &mut self.groups[index];
             let at = group.span_at(0).changes();
-            if let Some(Placed { key, is_full }) = group.put(self.alloc, class, self.slot_limit, words)? {
+            if let Some(Placed { key, is_full }) = group.put(
+                self.alloc,
+                class,
+                self.slot_limit,
+                words,
+            )? {
                 self.rooms.remove_if(class, index, is_full);
                 return Ok((key, at));
             }
@@ -186,12 +192,7 @@ fn first_reach(class: Class, groups: usize, slot_limit: u16) -> u8
 }
 
 // A page with the object at its first slot, and words in memory up to another, if it needs any.
-fn page_of_first(
-    alloc: Global,
-    class: Class,
-    reach: u8,
-    words: &[u128],
-) -> Result<Page, AllocError>
+fn page_of_first(alloc: Global, class: Class, reach: u8, words: &[u128]) -> Result<Page, AllocError>
     requires reach { reach < slots_in class }
     requires width { length words.now ≡ width_of class }
     ensures words { IfOk result (λ page. page.words ≡ set_object blank_page class 0 words.now) }
