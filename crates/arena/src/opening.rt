@@ -207,7 +207,7 @@ fn new_shard<L: Log>(alloc: Global, number: u32, limits: Limits) -> Shard<L>
     requires { number < limits.shards }
 {
     let (pages, spans, gens) = (limits.page_limit(), limits.span_limit(), limits.gens());
-    match Shard::with_log(alloc, number, pages, spans, gens) {
+    match Shard::with_slots(alloc, number, pages, spans, limits.slot_limit(), gens) {
         Ok(shard) => shard,
         Err(Config) => unreachable!(),
     }
