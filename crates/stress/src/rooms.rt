@@ -2,7 +2,7 @@
 ghost use Rattle.std.specs.Prelude.{◌≡◌};
 
 use arena::{Arena, NoGate, Seat};
-use marks::Totals;
+use marks::{Limits, Totals};
 use shard::PutError;
 use span::names::{Key, Object};
 use std::alloc::Global;
@@ -73,5 +73,32 @@ fn takes_all_its_pages(rt: HostRuntime) -> Result<(), Fail> {
         live: 512,
     };
     assert_eq!(rt; filled, Some(([(512, spent), (1, spent)], totals)));
+    Ok(())
+}
+
+// A put of the last of three shards, of two pages each, of which it takes that many slots.
+fn filled_by_slots<R: Wait>(rt: &R, alloc: Global, slot_limit: u16) -> Option<Filled> {
+    let limits = Limits::new(3, 2, 4, 2)?.with_slot_limit(slot_limit)?;
+    let (arena, mut seats, _) = Arena::with_limits(alloc, limits, NoGate).ok()?;
+    let mut seat = seats.pop()?;
+    if !seat.fits(&arena) {
+        return None;
+    }
+    fill_twice(rt, &arena, &mut seat)
+}
+
+#[test]
+fn takes_as_many_slots_as_it_may(rt: HostRuntime) -> Result<(), Fail> {
+    for slot_limit in [1u16, 16, 100, 128, 255, 256] {
+        // Once more if memory was refused.
+        let filled = match filled_by_slots(&rt, rt.alloc(), slot_limit) {
+            Some(filled) => Some(filled),
+            None => filled_by_slots(&rt, rt.alloc(), slot_limit),
+        };
+        let live = usize::from(slot_limit).saturating_mul(2);
+        let spent = Some(PutError::PagesSpent);
+        let totals = Totals { pages: 2, live };
+        assert_eq!(rt; filled, Some(([(live, spent), (1, spent)], totals)));
+    }
     Ok(())
 }
