@@ -152,6 +152,8 @@ static void has_share(struct teurlaks_share_handle *share, struct teurlaks_share
     WANT(teurlaks_arena_open_recorded(share, 2, 4, 1, 9) == TEURLAKS_HAS_CORE);
     WANT(teurlaks_arena_open_with_spans(share, 2, 4, 8, 1, 9) == TEURLAKS_HAS_CORE);
     WANT(teurlaks_arena_open_recorded_with_spans(share, 0, 0, 0, 0, 0) == TEURLAKS_HAS_CORE);
+    WANT(teurlaks_arena_open_with_slots(share, 2, 4, 8, 16, 1, 9) == TEURLAKS_HAS_CORE);
+    WANT(teurlaks_arena_open_recorded_with_slots(share, 0, 0, 0, 0, 0, 0) == TEURLAKS_HAS_CORE);
     WANT(share == steward || teurlaks_steward_seat(steward, share) == TEURLAKS_HAS_CORE);
     WANT(share->at == at);
 }
@@ -165,6 +167,8 @@ static void nowhere_at_shares(struct teurlaks_share_handle *steward,
     WANT(teurlaks_arena_open_recorded(NULL, 1, 1, 1, 1) == TEURLAKS_NO_CORE);
     WANT(teurlaks_arena_open_with_spans(NULL, 1, 1, 1, 1, 1) == TEURLAKS_NO_CORE);
     WANT(teurlaks_arena_open_recorded_with_spans(NULL, 1, 1, 1, 1, 1) == TEURLAKS_NO_CORE);
+    WANT(teurlaks_arena_open_with_slots(NULL, 1, 1, 1, 1, 1, 1) == TEURLAKS_NO_CORE);
+    WANT(teurlaks_arena_open_recorded_with_slots(NULL, 1, 1, 1, 1, 1, 1) == TEURLAKS_NO_CORE);
     WANT(teurlaks_steward_seat(steward, NULL) == TEURLAKS_NO_CORE);
     WANT(teurlaks_seat_leave(steward, NULL) == TEURLAKS_NO_CORE);
     WANT(teurlaks_seat_leave(NULL, seat) == TEURLAKS_NO_CORE);
@@ -226,6 +230,8 @@ static void shares(void) {
     WANT(teurlaks_arena_open(&steward, 0, 4, 1, 9) == TEURLAKS_CONFIG && !steward.at);
     WANT(teurlaks_arena_open_with_spans(&steward, 1, 4, 0, 1, 9) == TEURLAKS_CONFIG);
     WANT(teurlaks_arena_open_recorded_with_spans(&steward, 1, 4, 0, 1, 9) == TEURLAKS_CONFIG);
+    WANT(teurlaks_arena_open_with_slots(&steward, 1, 4, 1, 0, 1, 9) == TEURLAKS_CONFIG);
+    WANT(teurlaks_arena_open_recorded_with_slots(&steward, 1, 4, 1, 257, 1, 9) == TEURLAKS_CONFIG);
     WANT(teurlaks_arena_open(&steward, 2, 4, 1, 9) == TEURLAKS_OK);
     WANT(teurlaks_steward_seat(&steward, &seat) == TEURLAKS_OK);
     has_share(&steward, &steward);
@@ -408,6 +414,7 @@ static void nowhere(struct teurlaks_handle *core, struct teurlaks_key key) {
     each_key(NULL);
     WANT(teurlaks_new(NULL, 1, 1, 1, 1) == TEURLAKS_NO_CORE);
     WANT(teurlaks_new_with_spans(NULL, 1, 1, 1, 1, 1) == TEURLAKS_NO_CORE);
+    WANT(teurlaks_new_with_slots(NULL, 1, 1, 1, 1, 1, 1) == TEURLAKS_NO_CORE);
     WANT(teurlaks_put_words(core, 0, NULL, 4).status == TEURLAKS_CONFIG);
     WANT(teurlaks_set_words(core, key, NULL, 1) == TEURLAKS_CONFIG);
     struct teurlaks_words_reply found = teurlaks_get_words(core, key, NULL, 16);
@@ -451,6 +458,8 @@ int main(void) {
     each_key(&core);
     WANT(teurlaks_new(&core, 0, 1, 1, 1) == TEURLAKS_CONFIG);
     WANT(teurlaks_new_with_spans(&core, 1, 1, 0, 1, 1) == TEURLAKS_CONFIG);
+    WANT(teurlaks_new_with_slots(&core, 1, 1, 1, 0, 1, 1) == TEURLAKS_CONFIG);
+    WANT(teurlaks_new_with_slots(&core, 1, 1, 1, 65792, 1, 1) == TEURLAKS_CONFIG);
     each_key(&core);
     WANT(teurlaks_new(&core, 2, 4, 1, 9) == TEURLAKS_OK);
     struct teurlaks_put_reply put = teurlaks_put(&core, 0, one);
@@ -458,7 +467,8 @@ int main(void) {
 
     /* A second core is refused, whatever its numbers, and the first stays. */
     WANT(teurlaks_new(&core, 2, 4, 1, 9) == TEURLAKS_HAS_CORE &&
-         teurlaks_new_with_spans(&core, 0, 0, 0, 0, 0) == TEURLAKS_HAS_CORE);
+         teurlaks_new_with_spans(&core, 0, 0, 0, 0, 0) == TEURLAKS_HAS_CORE &&
+         teurlaks_new_with_slots(&core, 0, 0, 0, 0, 0, 0) == TEURLAKS_HAS_CORE);
     WANT(teurlaks_get(&core, put.key).value.low == one.low);
     numbers(&core, put.key);
     bytes_of(&core, put.key);

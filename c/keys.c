@@ -56,6 +56,37 @@ static void within_two_spans(void) {
     teurlaks_drop(&core);
 }
 
+/* Of a core whose puts take so many slots of a page each page holds as many, and not one more. */
+static void within_slots(uint32_t slots) {
+    struct teurlaks_handle core = {0};
+    WANT(teurlaks_new_with_slots(&core, 1, 2, 9, slots, 1, 3) == TEURLAKS_OK);
+    for (uint32_t i = 0; i < 2 * slots; i++) {
+        struct teurlaks_put_reply put = teurlaks_put(&core, 0, (struct teurlaks_word){i, 0});
+        WANT(put.status == TEURLAKS_OK && put.key.slot == i % slots);
+        WANT(put.key.serial == i / slots);
+    }
+    WANT(teurlaks_put(&core, 0, (struct teurlaks_word){7, 0}).status == TEURLAKS_PAGES_SPENT);
+    WANT(teurlaks_totals(&core).live == 2 * slots && teurlaks_totals(&core).pages == 2);
+    teurlaks_drop(&core);
+}
+
+/* A seat of an arena whose shards may open one span of so many slots each keeps as many keys,
+ * recorded or not. */
+static void within_slots_of_a_span(int is_recorded, uint32_t slots) {
+    struct teurlaks_share_handle steward = {0}, seat = {0};
+    struct teurlaks_word word = {7, 0};
+    uint32_t status =
+        is_recorded ? teurlaks_arena_open_recorded_with_slots(&steward, 1, 4, 1, slots, 1, 3)
+                    : teurlaks_arena_open_with_slots(&steward, 1, 4, 1, slots, 1, 3);
+    WANT(status == TEURLAKS_OK);
+    WANT(teurlaks_steward_seat(&steward, &seat) == TEURLAKS_OK);
+    for (uint32_t i = 0; i < slots; i++)
+        WANT(teurlaks_seat_put_words(&seat, &word, 1).status == TEURLAKS_OK);
+    WANT(teurlaks_seat_put_words(&seat, &word, 1).status == TEURLAKS_PAGES_SPENT);
+    teurlaks_share_drop(&seat);
+    teurlaks_share_drop(&steward);
+}
+
 /* A seat of an arena whose shards may open one span each keeps 256 keys, recorded or not. */
 static void within_one_span(int is_recorded) {
     struct teurlaks_share_handle steward = {0}, seat = {0};
@@ -76,6 +107,11 @@ int main(void) {
     within_two_spans();
     within_one_span(0);
     within_one_span(1);
+    for (uint32_t slots = 1; slots <= 256; slots += 51) {
+        within_slots(slots);
+        within_slots_of_a_span(0, slots);
+        within_slots_of_a_span(1, slots);
+    }
     struct teurlaks_key_bits balanced = TEURLAKS_BALANCED_BITS, doubles = TEURLAKS_DOUBLE_BITS;
     both_ways(balanced, key_of(0, 0, 0, 1), UINT64_C(1) << 40);
     both_ways(balanced, key_of(3, 17, 255, 1), UINT64_C(0x130000011ff));

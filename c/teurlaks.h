@@ -275,6 +275,12 @@ uint32_t teurlaks_new(struct teurlaks_handle *out, uint32_t shards, uint32_t pag
 uint32_t teurlaks_new_with_spans(struct teurlaks_handle *out, uint32_t shards, uint32_t page_limit,
                                  uint32_t span_limit, uint32_t ring_capacity, uint32_t gens);
 
+/* The same of a core whose puts take only the lowest slot_limit slots of a page, 1 to 256. Of
+ * fewer slots more pages fit each other, so that more memory comes back; each page holds less. */
+uint32_t teurlaks_new_with_slots(struct teurlaks_handle *out, uint32_t shards, uint32_t page_limit,
+                                 uint32_t span_limit, uint32_t slot_limit, uint32_t ring_capacity,
+                                 uint32_t gens);
+
 /* Gives all memory of the core back, and leaves the handle without one. */
 void teurlaks_drop(struct teurlaks_handle *handle);
 
@@ -488,6 +494,12 @@ uint32_t teurlaks_arena_open_with_spans(struct teurlaks_share_handle *out, uint3
                                         uint32_t page_limit, uint32_t span_limit,
                                         uint32_t ring_capacity, uint32_t gens);
 
+/* The same with the numbers of teurlaks_new_with_slots. */
+uint32_t teurlaks_arena_open_with_slots(struct teurlaks_share_handle *out, uint32_t shards,
+                                        uint32_t page_limit, uint32_t span_limit,
+                                        uint32_t slot_limit, uint32_t ring_capacity,
+                                        uint32_t gens);
+
 /* The same of an arena whose run is recorded: each span keeps the log of its changes, and each seat
  * a receipt of each put, look-up, set and free that is made at it, until teurlaks_arena_audit holds
  * these against the logs. All calls are as those of any arena, but that those of a seat take memory
@@ -500,6 +512,12 @@ uint32_t teurlaks_arena_open_recorded(struct teurlaks_share_handle *out, uint32_
 uint32_t teurlaks_arena_open_recorded_with_spans(struct teurlaks_share_handle *out, uint32_t shards,
                                                  uint32_t page_limit, uint32_t span_limit,
                                                  uint32_t ring_capacity, uint32_t gens);
+
+/* The same with the numbers of teurlaks_new_with_slots. */
+uint32_t teurlaks_arena_open_recorded_with_slots(struct teurlaks_share_handle *out, uint32_t shards,
+                                                 uint32_t page_limit, uint32_t span_limit,
+                                                 uint32_t slot_limit, uint32_t ring_capacity,
+                                                 uint32_t gens);
 
 /* Ends a recorded arena, whose seats are all back with the steward (teurlaks_seat_leave), and holds
  * the receipts of all seats against the logs of all spans. TEURLAKS_OK: they agree, and so each

@@ -86,6 +86,15 @@ TEURLAKS_INLINE uint32_t teurlaks_tested_new_with_spans(struct teurlaks_handle *
                : (uint32_t)TEURLAKS_NO_CORE;
 }
 
+TEURLAKS_INLINE uint32_t teurlaks_tested_new_with_slots(struct teurlaks_handle *out,
+                                                        uint32_t shards, uint32_t page_limit,
+                                                        uint32_t span_limit, uint32_t slot_limit,
+                                                        uint32_t ring_capacity, uint32_t gens) {
+    return out ? teurlaks_new_with_slots(out, shards, page_limit, span_limit, slot_limit,
+                                         ring_capacity, gens)
+               : (uint32_t)TEURLAKS_NO_CORE;
+}
+
 TEURLAKS_INLINE void teurlaks_tested_drop(struct teurlaks_handle *handle) {
     if (handle) teurlaks_drop(handle);
 }
@@ -286,6 +295,17 @@ TEURLAKS_INLINE uint32_t teurlaks_tested_arena_open_with_spans(struct teurlaks_s
                : (uint32_t)TEURLAKS_NO_CORE;
 }
 
+TEURLAKS_INLINE uint32_t teurlaks_tested_arena_open_with_slots(struct teurlaks_share_handle *out,
+                                                               uint32_t shards, uint32_t page_limit,
+                                                               uint32_t span_limit,
+                                                               uint32_t slot_limit,
+                                                               uint32_t ring_capacity,
+                                                               uint32_t gens) {
+    return out ? teurlaks_arena_open_with_slots(out, shards, page_limit, span_limit, slot_limit,
+                                                ring_capacity, gens)
+               : (uint32_t)TEURLAKS_NO_CORE;
+}
+
 TEURLAKS_INLINE uint32_t teurlaks_tested_arena_open_recorded(struct teurlaks_share_handle *out,
                                                              uint32_t shards, uint32_t page_limit,
                                                              uint32_t ring_capacity,
@@ -300,6 +320,16 @@ teurlaks_tested_arena_open_recorded_with_spans(struct teurlaks_share_handle *out
                                                uint32_t ring_capacity, uint32_t gens) {
     return out ? teurlaks_arena_open_recorded_with_spans(out, shards, page_limit, span_limit,
                                                          ring_capacity, gens)
+               : (uint32_t)TEURLAKS_NO_CORE;
+}
+
+TEURLAKS_INLINE uint32_t
+teurlaks_tested_arena_open_recorded_with_slots(struct teurlaks_share_handle *out, uint32_t shards,
+                                               uint32_t page_limit, uint32_t span_limit,
+                                               uint32_t slot_limit, uint32_t ring_capacity,
+                                               uint32_t gens) {
+    return out ? teurlaks_arena_open_recorded_with_slots(out, shards, page_limit, span_limit,
+                                                         slot_limit, ring_capacity, gens)
                : (uint32_t)TEURLAKS_NO_CORE;
 }
 
@@ -483,6 +513,7 @@ teurlaks_tested_steward_totals(struct teurlaks_share_handle *handle) {
 
 #define teurlaks_new teurlaks_tested_new
 #define teurlaks_new_with_spans teurlaks_tested_new_with_spans
+#define teurlaks_new_with_slots teurlaks_tested_new_with_slots
 #define teurlaks_drop teurlaks_tested_drop
 #define teurlaks_put teurlaks_tested_put
 #define teurlaks_get teurlaks_tested_get
@@ -514,8 +545,10 @@ teurlaks_tested_steward_totals(struct teurlaks_share_handle *handle) {
 #define teurlaks_certificate teurlaks_tested_certificate
 #define teurlaks_arena_open teurlaks_tested_arena_open
 #define teurlaks_arena_open_with_spans teurlaks_tested_arena_open_with_spans
+#define teurlaks_arena_open_with_slots teurlaks_tested_arena_open_with_slots
 #define teurlaks_arena_open_recorded teurlaks_tested_arena_open_recorded
 #define teurlaks_arena_open_recorded_with_spans teurlaks_tested_arena_open_recorded_with_spans
+#define teurlaks_arena_open_recorded_with_slots teurlaks_tested_arena_open_recorded_with_slots
 #define teurlaks_arena_audit teurlaks_tested_arena_audit
 #define teurlaks_seat_leave teurlaks_tested_seat_leave
 #define teurlaks_seat_arena teurlaks_tested_seat_arena

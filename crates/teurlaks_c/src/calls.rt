@@ -2,7 +2,7 @@
 ghost use Rattle.std.specs.Prelude.{◌≡◌, ◌↔◌, ◌⊎◌, ◌∷◌, [], IfSome, IsSome, None, Some, length, option_map};
 ghost use Rattle.span.specs.Classes.{IsObject, width_of};
 ghost use Rattle.marks.specs.Numbers.{AreWithin, limits_of};
-ghost use Rattle.teurlaks_c.specs.Numbers.{limits_given};
+ghost use Rattle.teurlaks_c.specs.Numbers.{limits_given, limits_with};
 ghost use Rattle.teurlaks_c.specs.Calls.{Counts, Frees, FreesKey, Gets, GetsKey, GetsWords, HasNew, Nexts, Puts, PutsWords, SaysGot, SaysNext, SaysWords, Sets, SetsKey, SetsWords};
 ghost use Rattle.teurlaks_c.specs.Words.{word_of, words_of};
 ghost use Rattle.teurlaks_c.specs.Status.{config, has_core, no_core, out_of_memory};
@@ -15,6 +15,7 @@ use crate::replies::{GetReply, NextReply, PutReply, RawKey, RawWord, TotalsReply
 use crate::status::{CONFIG, HAS_CORE, NO_CORE, NONE, OK, OUT_OF_MEMORY, TOO_SMALL, status_of};
 use crate::words::{class_for, join_all, raw_word, value_of, write_words};
 use arena_core::Core;
+use bitmap::SLOTS;
 use marks::Limits;
 use span::names::{Class, Key, MOST_SPANS};
 use std::alloc::Global;
@@ -72,10 +73,50 @@ pub extern "C" fn teurlaks_new_with_spans(
         ↔ (AreWithin (limits_given shards page_limit span_limit ring_capacity gens) → ⊥) }
     ensures taken { (result ≡ has_core) ↔ IsSome out.old.held }
 {
+    teurlaks_new_with_slots(
+        alloc,
+        out,
+        shards,
+        page_limit,
+        span_limit,
+        SLOTS as u32,
+        ring_capacity,
+        gens,
+    )
+}
+
+/// As `teurlaks_new_with_spans`, of a core whose puts take only the lowest `slot_limit` slots of a
+/// page, 1 to 256. Pages with fewer slots in use share memory with others more often.
+#[unsafe(no_mangle)]
+pub extern "C" fn teurlaks_new_with_slots(
+    alloc: Global,
+    out: &mut Handle,
+    shards: u32,
+    page_limit: u32,
+    span_limit: u32,
+    slot_limit: u32,
+    ring_capacity: u32,
+    gens: u32,
+) -> u32
+    ensures ok { result ≡ 0 → HasNew
+        (limits_with shards page_limit span_limit slot_limit ring_capacity gens) out.new.held }
+    ensures refused { (result ≡ 0 → ⊥) → out.new.held ≡ out.old.held }
+    ensures config { out.old.held ≡ None → (result ≡ config)
+        ↔ (AreWithin (limits_with shards page_limit span_limit slot_limit ring_capacity gens) → ⊥) }
+    ensures taken { (result ≡ has_core) ↔ IsSome out.old.held }
+{
     if !out.is_null() {
         return HAS_CORE;
     }
-    let Some(limits) = limits_for(shards, page_limit, span_limit, ring_capacity, gens) else {
+    let found = limits_for(
+        shards,
+        page_limit,
+        span_limit,
+        slot_limit,
+        ring_capacity,
+        gens,
+    );
+    let Some(limits) = found else {
         return CONFIG;
     };
     leave_core(alloc, out, limits)

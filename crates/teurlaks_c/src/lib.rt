@@ -81,8 +81,8 @@ mod words;
 
 pub use calls::{
     teurlaks_drop, teurlaks_free, teurlaks_get, teurlaks_get_words, teurlaks_new,
-    teurlaks_new_with_spans, teurlaks_next, teurlaks_put, teurlaks_put_words, teurlaks_set,
-    teurlaks_set_words, teurlaks_totals,
+    teurlaks_new_with_slots, teurlaks_new_with_spans, teurlaks_next, teurlaks_put,
+    teurlaks_put_words, teurlaks_set, teurlaks_set_words, teurlaks_totals,
 };
 pub use compacting::{
     teurlaks_compact_within, teurlaks_compaction_give_up, teurlaks_compaction_step,
@@ -97,7 +97,8 @@ pub use meshing::{
 };
 pub use places::{teurlaks_seat_arena, teurlaks_steward_arena};
 pub use recorded_stewards::{
-    teurlaks_arena_audit, teurlaks_arena_open_recorded, teurlaks_arena_open_recorded_with_spans,
+    teurlaks_arena_audit, teurlaks_arena_open_recorded, teurlaks_arena_open_recorded_with_slots,
+    teurlaks_arena_open_recorded_with_spans,
 };
 pub use seats::{
     teurlaks_seat_adopt, teurlaks_seat_begin, teurlaks_seat_end, teurlaks_seat_free,
@@ -107,9 +108,9 @@ pub use seats::{
 };
 pub use sessions::{teurlaks_seat_pause, teurlaks_seat_session};
 pub use stewards::{
-    teurlaks_arena_open, teurlaks_arena_open_with_spans, teurlaks_share_drop,
-    teurlaks_steward_certificate, teurlaks_steward_close, teurlaks_steward_forget,
-    teurlaks_steward_mark, teurlaks_steward_mark_some, teurlaks_steward_seat,
-    teurlaks_steward_step, teurlaks_steward_totals,
+    teurlaks_arena_open, teurlaks_arena_open_with_slots, teurlaks_arena_open_with_spans,
+    teurlaks_share_drop, teurlaks_steward_certificate, teurlaks_steward_close,
+    teurlaks_steward_forget, teurlaks_steward_mark, teurlaks_steward_mark_some,
+    teurlaks_steward_seat, teurlaks_steward_step, teurlaks_steward_totals,
 };
 pub use walks::{teurlaks_seat_next, teurlaks_steward_next};

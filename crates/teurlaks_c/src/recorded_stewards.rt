@@ -2,7 +2,7 @@
 ghost use Rattle.std.specs.Prelude.{◌≡◌, ◌↔◌, IfErr, IfOk, IsSome, None, Some, map, vec_capacity, vec_len, ◌≤◌, ◌⊎◌};
 ghost use Rattle.std.specs.Arc.{arc_value};
 ghost use Rattle.marks.specs.Numbers.{AreWithin, limits_of};
-ghost use Rattle.teurlaks_c.specs.Numbers.{limits_given};
+ghost use Rattle.teurlaks_c.specs.Numbers.{limits_given, limits_with};
 ghost use Rattle.span.specs.ReceiptLists.{kept_receipts};
 ghost use Rattle.span.specs.SpanLogs.{AreLegal};
 ghost use Rattle.teurlaks_c.specs.declared.share.Share.TheVariants as shares;
@@ -22,6 +22,7 @@ use crate::status::{
 use crate::stewards::has_share;
 use arena::{Arena, NoGate, Seat, take_logs};
 use audit::{AuditCause, AuditError, audit};
+use bitmap::SLOTS;
 use marks::Limits;
 use span::names::MOST_SPANS;
 use span::receipts::ReceiptList;
@@ -81,10 +82,50 @@ pub extern "C" fn teurlaks_arena_open_recorded_with_spans(
         ↔ (AreWithin (limits_given shards page_limit span_limit ring_capacity gens) → ⊥) }
     ensures taken { (result ≡ has_core) ↔ IsSome out.old.share }
 {
+    teurlaks_arena_open_recorded_with_slots(
+        alloc,
+        out,
+        shards,
+        page_limit,
+        span_limit,
+        SLOTS as u32,
+        ring_capacity,
+        gens,
+    )
+}
+
+/// As `teurlaks_arena_open_recorded_with_spans`, of an arena whose puts take only the lowest
+/// `slot_limit` slots of a page, 1 to 256.
+#[unsafe(no_mangle)]
+pub extern "C" fn teurlaks_arena_open_recorded_with_slots(
+    alloc: Global,
+    out: &mut ShareHandle,
+    shards: u32,
+    page_limit: u32,
+    span_limit: u32,
+    slot_limit: u32,
+    ring_capacity: u32,
+    gens: u32,
+) -> u32
+    ensures ok { result ≡ 0 → HasNewRecord
+        (limits_with shards page_limit span_limit slot_limit ring_capacity gens) out.new.share }
+    ensures refused { (result ≡ 0 → ⊥) → out.new.share ≡ out.old.share }
+    ensures config { out.old.share ≡ None → (result ≡ config)
+        ↔ (AreWithin (limits_with shards page_limit span_limit slot_limit ring_capacity gens) → ⊥) }
+    ensures taken { (result ≡ has_core) ↔ IsSome out.old.share }
+{
     if has_share(alloc, out) {
         return HAS_CORE;
     }
-    let Some(limits) = limits_for(shards, page_limit, span_limit, ring_capacity, gens) else {
+    let found = limits_for(
+        shards,
+        page_limit,
+        span_limit,
+        slot_limit,
+        ring_capacity,
+        gens,
+    );
+    let Some(limits) = found else {
         return CONFIG;
     };
     leave_recorder(alloc, out, limits)

@@ -4,7 +4,7 @@ ghost use Rattle.std.specs.Arc.{arc_value};
 ghost use Rattle.teurlaks_c.specs.declared.share.SharedSeat.{SharedSeat};
 ghost use Rattle.teurlaks_c.specs.declared.share.Share.TheVariants as shares;
 ghost use Rattle.marks.specs.Numbers.{AreWithin, limits_of};
-ghost use Rattle.teurlaks_c.specs.Numbers.{limits_given};
+ghost use Rattle.teurlaks_c.specs.Numbers.{limits_given, limits_with};
 ghost use Rattle.teurlaks_c.specs.Status.{config, has_core, mark_status, no_core, out_of_memory, status_of_outcome};
 ghost use Rattle.teurlaks_c.specs.StewardCalls.{Asks, Closes, ForgetsAll, HandsBoxed, HandsOutBoxed, HandsOutOf, HasNewArena, Keeps, LeavesSeat, Marks, SaysClosed, SaysForgotten, SaysMarked, SaysStepped, SaysTotals, TakesStep, WritesLast};
 
@@ -21,6 +21,7 @@ use crate::status::{
 };
 use crate::steward_calls::{Close, CountAll, Mark, MarkSome, Step, at_steward};
 use arena::{Arena, Busy, NoGate, PlanOpen, Seat, Stepped, Totals};
+use bitmap::SLOTS;
 use fold::Step as Outcome;
 use marks::{Limits, MarkError};
 use span::names::MOST_SPANS;
@@ -83,10 +84,50 @@ pub extern "C" fn teurlaks_arena_open_with_spans(
         ↔ (AreWithin (limits_given shards page_limit span_limit ring_capacity gens) → ⊥) }
     ensures taken { (result ≡ has_core) ↔ IsSome out.old.share }
 {
+    teurlaks_arena_open_with_slots(
+        alloc,
+        out,
+        shards,
+        page_limit,
+        span_limit,
+        SLOTS as u32,
+        ring_capacity,
+        gens,
+    )
+}
+
+/// As `teurlaks_arena_open_with_spans`, of an arena whose puts take only the lowest `slot_limit`
+/// slots of a page, 1 to 256.
+#[unsafe(no_mangle)]
+pub extern "C" fn teurlaks_arena_open_with_slots(
+    alloc: Global,
+    out: &mut ShareHandle,
+    shards: u32,
+    page_limit: u32,
+    span_limit: u32,
+    slot_limit: u32,
+    ring_capacity: u32,
+    gens: u32,
+) -> u32
+    ensures ok { result ≡ 0 → HasNewArena
+        (limits_with shards page_limit span_limit slot_limit ring_capacity gens) out.new.share }
+    ensures refused { (result ≡ 0 → ⊥) → out.new.share ≡ out.old.share }
+    ensures config { out.old.share ≡ None → (result ≡ config)
+        ↔ (AreWithin (limits_with shards page_limit span_limit slot_limit ring_capacity gens) → ⊥) }
+    ensures taken { (result ≡ has_core) ↔ IsSome out.old.share }
+{
     if has_share(alloc, out) {
         return HAS_CORE;
     }
-    let Some(limits) = limits_for(shards, page_limit, span_limit, ring_capacity, gens) else {
+    let found = limits_for(
+        shards,
+        page_limit,
+        span_limit,
+        slot_limit,
+        ring_capacity,
+        gens,
+    );
+    let Some(limits) = found else {
         return CONFIG;
     };
     leave_steward(alloc, out, limits)
