@@ -61,12 +61,12 @@ pub struct Slab<T> {
     // A key is live here exactly where it has a value there, but for the one below.
     core: Core,
     values: values::Values<T>,
+    // The key of a vacant entry, which has no value yet. It stays where such an entry is forgotten.
+    vacant: Option<Key>,
     // The shard that an insert without a shard asks first.
     first: u8,
     // Whether a shard with many pages leaves the next ones to the next shard.
     takes_turns: bool,
-    // The key of a vacant entry, which has no value yet. It stays where such an entry is forgotten.
-    vacant: Option<Key>,
     // Whether a compaction in parts has taken its steps and has pages of values to move.
     is_packing: bool,
 }

@@ -17,13 +17,13 @@ impl Slots {
     /// The places of the numbers that are not 0, at most 256.
     pub fn of_nonzero(numbers: &[u32]) -> Slots {
         let mut slots = Slots::NONE;
-        let pieces = numbers.chunks_exact(BITS.len());
-        let rest = bits_of_nonzero(pieces.remainder());
-        let count = pieces.len();
-        for (place, bits) in pieces.map(bits_of_nonzero).chain([rest]).enumerate() {
-            if place < count || bits != 0 {
-                slots.0[place / 2] |= u64::from(bits) << (place % 2 * BITS.len());
-            }
+        let words = numbers.chunks_exact(64);
+        let rest = words.remainder();
+        for (word, numbers) in slots.0.iter_mut().zip(words) {
+            *word = bits_of_nonzero(numbers);
+        }
+        if !rest.is_empty() {
+            slots.0[numbers.len() / 64] = bits_of_few(rest);
         }
         slots
     }
@@ -82,17 +82,20 @@ impl Slots {
     }
 
     /// Takes the lowest slots out that share a word.
+    #[inline]
     pub fn take_first(&mut self) -> Word {
         let number = self.0.iter().position(|word| *word != 0);
         number.map_or(Word::NONE, |number| self.take_word(number))
     }
 
     /// Takes the highest slots out that share a word.
+    #[inline]
     pub fn take_last(&mut self) -> Word {
         let number = self.0.iter().rposition(|word| *word != 0);
         number.map_or(Word::NONE, |number| self.take_word(number))
     }
 
+    #[inline]
     fn take_word(&mut self, number: usize) -> Word {
         let bits = mem::take(&mut self.0[number]);
         Word { number, bits }
@@ -138,25 +141,56 @@ impl Word {
     }
 }
 
-/// Each bit of a word.
-static BITS: [u32; 32] = {
-    let (mut bits, mut place) = ([0; 32], 0);
-    while place < 32 {
-        bits[place] = 1 << place;
-        place += 1;
-    }
-    bits
-};
+/// How many numbers are looked at together.
+const PIECE: usize = 16;
 
-/// The bits at the places of the numbers that are not 0, at most 32.
-// From a table, since then many numbers are looked at by one instruction.
+/// The bits at the places of the numbers that are not 0, at most 64.
 #[inline]
-fn bits_of_nonzero(numbers: &[u32]) -> u32 {
-    let bits = numbers.iter().zip(&BITS);
-    bits.fold(0, |bits, (number, bit)| {
-        bits | if *number == 0 { 0 } else { *bit }
-    })
+fn bits_of_nonzero(numbers: &[u32]) -> u64 {
+    let pieces = numbers.chunks_exact(PIECE);
+    let rest = bits_one_by_one(pieces.remainder());
+    pieces
+        .rev()
+        .fold(rest, |bits, piece| bits << PIECE | bits_of_piece(piece))
 }
+
+/// The same, not in line.
+#[inline(never)]
+fn bits_of_few(numbers: &[u32]) -> u64 {
+    bits_of_nonzero(numbers)
+}
+
+/// The same, in as many steps.
+#[inline]
+fn bits_one_by_one(numbers: &[u32]) -> u64 {
+    let numbers = numbers.iter().rev();
+    numbers.fold(0, |bits, number| bits << 1 | u64::from(*number != 0))
+}
+
+/// The same of a piece, in as many instructions.
+#[cfg(target_arch = "x86_64")]
+#[inline]
+fn bits_of_piece(numbers: &[u32]) -> u64 {
+    use std::arch::x86_64::{
+        _mm_cmpeq_epi32, _mm_loadu_si128, _mm_movemask_epi8, _mm_packs_epi16, _mm_packs_epi32,
+        _mm_setzero_si128,
+    };
+    assert!(numbers.len() == PIECE);
+    let first = numbers.as_ptr();
+    // SAFETY: four numbers are read from each of these places on, of 16. Each processor of this kind
+    // has the instructions.
+    let zeros = unsafe {
+        let are_zero =
+            |at| _mm_cmpeq_epi32(_mm_loadu_si128(first.add(at).cast()), _mm_setzero_si128());
+        let low = _mm_packs_epi32(are_zero(0), are_zero(4));
+        let high = _mm_packs_epi32(are_zero(8), are_zero(12));
+        _mm_movemask_epi8(_mm_packs_epi16(low, high))
+    };
+    u64::from(!zeros as u16)
+}
+
+#[cfg(not(target_arch = "x86_64"))]
+use self::bits_one_by_one as bits_of_piece;
 
 #[inline]
 fn word_of(slot: u32) -> usize {

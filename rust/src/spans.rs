@@ -49,14 +49,13 @@ impl Home {
 /// a look-up is mostly a product and a comparison: with a `HashMap` of as cheap a hash the look-up
 /// of a value took half as long again.
 pub(crate) struct Spans {
-    // None at first, and then a power of two, of which at most half are homes. The others are free,
-    // which the name tells that no key's span has: so one comparison tells a home.
+    // None at first, then one, and then a power of two of which at most half are homes. The others
+    // are free, which the name tells that no key's span has: so one comparison tells a home.
     places: Box<[Home]>,
-    // One less than they are, or 0: so a place is a number and this.
-    mask: usize,
     // How many further spans there is room for.
     room: u32,
-    // By the numbers of spans. At one that no span has, the one that was freed before it.
+    // By the numbers of spans. At one that no span has, the one that was freed before it. While
+    // there is one place, its home has number 0, and this is empty.
     names: Vec<Span>,
     // The number that was freed last, or `NO_NUMBER`.
     free: u32,
@@ -65,8 +64,9 @@ pub(crate) struct Spans {
 /// No number: there are fewer spans.
 const NO_NUMBER: u32 = u32::MAX;
 
-/// How many places there are at least, once there are any: those of one span.
-const LEAST_PLACES: usize = 2;
+/// How many places there are at least, once there are any: the one of a first span, which may take
+/// all of them. Each other number of places has a free one, at which a search ends.
+const LEAST_PLACES: usize = 1;
 
 /// An odd number, found by trial, by which spans seldom want the same place, in shards that open
 /// them one after another, and where each second to 4,096th of these is left: where half of the
@@ -77,22 +77,15 @@ impl Spans {
     pub fn new() -> Spans {
         Spans {
             places: Box::default(),
-            mask: 0,
             room: 0,
             names: Vec::new(),
             free: NO_NUMBER,
         }
     }
 
-    /// Whether there is no room for a further span.
-    #[inline]
-    pub fn is_full(&self) -> bool {
-        self.room == 0
-    }
-
     /// How many spans there is room for in all: their numbers are below that.
     pub fn most(&self) -> usize {
-        self.places.len() / 2
+        most_homes(self.places.len())
     }
 
     /// Makes room for so many further spans. A refusal changes nothing that is seen.
@@ -103,20 +96,27 @@ impl Spans {
             return Ok(());
         }
         let spans = self.len();
-        let len = (2 * (spans + additional))
-            .next_power_of_two()
-            .max(LEAST_PLACES);
+        let len = match spans + additional {
+            1 => LEAST_PLACES,
+            most => (2 * most).next_power_of_two(),
+        };
         // A number has 32 bits.
-        if len / 2 > u32::MAX as usize {
+        if most_homes(len) > u32::MAX as usize {
             return Err(Refused::OutOfMemory);
         }
-        make_room(&mut self.names, len / 2)?;
+        if len > LEAST_PLACES {
+            make_room(&mut self.names, most_homes(len))?;
+        }
         let mut places = Vec::new();
         make_room(&mut places, len)?;
         places.resize(len, Home::FREE);
         let homes = std::mem::replace(&mut self.places, places.into_boxed_slice());
-        self.mask = len - 1;
-        self.room = (len / 2 - spans) as u32;
+        self.room = (most_homes(len) - spans) as u32;
+        if homes.len() == LEAST_PLACES {
+            // Its number is the first name.
+            let only = homes.iter().filter(|home| !home.is_free());
+            self.names.extend(only.map(|home| home.span));
+        }
         for home in homes.iter().filter(|home| !home.is_free()) {
             let place = self.free_place(home.span);
             self.places[place] = *home;
@@ -150,7 +150,7 @@ impl Spans {
         if self.places.get(place)?.span == span {
             return self.places.get_mut(place);
         }
-        while !self.places.get(place)?.is_free() {
+        while self.places.len() > LEAST_PLACES && !self.places.get(place)?.is_free() {
             place = self.place_after(place);
             if self.places.get(place)?.span == span {
                 return self.places.get_mut(place);
@@ -161,7 +161,7 @@ impl Spans {
 
     /// How many homes there are.
     pub fn len(&self) -> usize {
-        self.places.len() / 2 - self.room as usize
+        self.most() - self.room as usize
     }
 
     /// All homes.
@@ -203,7 +203,10 @@ impl Spans {
 
     /// How many numbers spans have or had: each is below that.
     pub fn numbers(&self) -> usize {
-        self.names.len()
+        match self.places.len() {
+            LEAST_PLACES => 1,
+            _ => self.names.len(),
+        }
     }
 
     /// Forgets the home of the span, if it has one. It takes no memory.
@@ -212,32 +215,41 @@ impl Spans {
             return;
         };
         let number = self.places[gap].number;
-        self.names[number as usize] = Span::freed(self.free);
-        self.free = number;
+        if let Some(name) = self.names.get_mut(number as usize) {
+            *name = Span::freed(self.free);
+            self.free = number;
+        }
         self.room += 1;
+        self.places[gap] = Home::FREE;
         // Of those behind the gap, each that is looked for by way of it closes it.
         let mut place = self.place_after(gap);
         while !self.places[place].is_free() {
             let first = self.first_place(self.places[place].span);
             if self.steps(first, place) >= self.steps(gap, place) {
-                self.places[gap] = self.places[place];
+                self.places.swap(gap, place);
                 gap = place;
             }
             place = self.place_after(place);
         }
-        self.places[gap] = Home::FREE;
     }
 
     /// The span of this number, or a name that none has if it is free.
     #[inline]
     pub fn name(&self, number: u32) -> Span {
-        self.names[number as usize]
+        match &*self.places {
+            [only] if only.is_free() => Span::freed(NO_NUMBER),
+            [only] => only.span,
+            _ => self.names[number as usize],
+        }
     }
 
     /// A number that no span has, which is the span's from now on. There is room for it.
     // Room is made for no more spans than there are numbers.
     #[allow(clippy::cast_possible_truncation)]
     fn number_for(&mut self, span: Span) -> u32 {
+        if self.places.len() == LEAST_PLACES {
+            return 0;
+        }
         if self.free != NO_NUMBER {
             let number = self.free;
             let before = std::mem::replace(&mut self.names[number as usize], span);
@@ -252,7 +264,7 @@ impl Spans {
     fn place_of(&self, span: Span) -> Option<usize> {
         let mut place = self.first_place(span);
         while self.places.get(place)?.span != span {
-            if self.places[place].is_free() {
+            if self.places[place].is_free() || self.places.len() == LEAST_PLACES {
                 return None;
             }
             place = self.place_after(place);
@@ -276,17 +288,32 @@ impl Spans {
     #[allow(clippy::cast_possible_truncation)]
     fn first_place(&self, span: Span) -> usize {
         let product = span.number().wrapping_mul(FACTOR);
-        (product >> 32) as usize & self.mask
+        (product >> 32) as usize & self.mask()
+    }
+
+    /// One less than there are places, so a place is a number and this. Without a place it is no
+    /// place at all.
+    #[inline]
+    fn mask(&self) -> usize {
+        self.places.len().wrapping_sub(1)
     }
 
     #[inline]
     fn place_after(&self, place: usize) -> usize {
-        (place + 1) & self.mask
+        (place + 1) & self.mask()
     }
 
     /// How many places on the second one is.
     fn steps(&self, from: usize, to: usize) -> usize {
-        to.wrapping_sub(from) & self.mask
+        to.wrapping_sub(from) & self.mask()
+    }
+}
+
+/// How many homes so many places have room for.
+fn most_homes(places: usize) -> usize {
+    match places {
+        LEAST_PLACES => 1,
+        _ => places / 2,
     }
 }
 

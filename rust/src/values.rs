@@ -14,7 +14,6 @@ mod walks;
 pub(crate) use block::Block;
 pub(crate) use walks::{Walk, WalkMut};
 
-use crate::boxed::Late;
 use crate::bytes::{slots_for, MOST_WORDS};
 use crate::core::{was_put, Core, Limits};
 use crate::names::{Key, Span};
@@ -22,7 +21,7 @@ use crate::raw::PutReply;
 use crate::refused::Refused;
 use crate::slots::Slots;
 use crate::spans::{Home, Spans};
-use paged::{Page, Paged, FEWEST_SLOTS};
+use paged::{Paged, FEWEST_SLOTS};
 use std::alloc::{alloc, dealloc, Layout};
 use std::iter;
 use std::marker::PhantomData;
@@ -94,8 +93,8 @@ const fn round_up(bytes: usize, step: usize) -> usize {
 pub(crate) struct Values<T> {
     spans: Spans,
     // By the numbers of spans that are not alone on their pages; of others there may be none.
-    rows: Vec<Row>,
-    paged: Late<Paged<T>>,
+    rows: Box<[Row]>,
+    paged: Paged<T>,
     // Memory for one value that does not stand in a page.
     room: Option<NonNull<T>>,
     // While fewer keys are live there is room for one value, as `reserve` makes it: wherever a
@@ -290,8 +289,8 @@ impl<T> Values<T> {
     pub fn new() -> Values<T> {
         Values {
             spans: Spans::new(),
-            rows: Vec::new(),
-            paged: Late::new(),
+            rows: Box::default(),
+            paged: Paged::new(),
             room: None,
             room_until: 0,
             owned: PhantomData,
@@ -331,10 +330,8 @@ impl<T> Values<T> {
         } else {
             self.reserve_blocks(1)?;
         }
-        // Lean rows may be missing if they were refused memory after the spans had got theirs.
-        if self.spans.is_full() || LEAN && self.rows.len() < self.spans.most() {
-            self.grow_spans(1)?;
-        }
+        // A short page has the values of one group, whose span takes the next one too.
+        self.grow_spans(usize::from(!is_short || self.spans.len() == 0))?;
         if Self::APART && self.room.is_none() {
             // SAFETY: such a value has bytes.
             let room = unsafe { alloc(Layout::new::<T>()) };
@@ -352,26 +349,24 @@ impl<T> Values<T> {
     /// them are in one group of the first shard, whose puts take the lowest slot that is free. So
     /// the slot of the next one is no higher than the number of live keys.
     fn fits_short(&self, core: &Core, more: usize) -> bool {
-        let may_be_short = self.paged.get().map_or(true, Paged::may_be_short);
-        may_be_short && core.fills_in_order() && more <= Self::MOST_SHORT.saturating_sub(core.len())
+        self.paged.may_be_short()
+            && core.fills_in_order()
+            && more <= Self::MOST_SHORT.saturating_sub(core.len())
     }
 
     /// Sees to it that the first page is in a short block of at least so many slots.
     fn lengthen(&mut self, slots: usize) -> Result<(), Refused> {
-        let paged = self.paged.make(Paged::new)?;
-        paged.lengthen(slots)?;
-        let slots = paged.short_slots();
-        self.follow_first(slots);
+        self.paged.lengthen(slots)?;
+        self.follow_first();
         Ok(())
     }
 
     /// Sees to it that so many pages of all slots are free, and none is in a short block.
     fn reserve_blocks(&mut self, count: usize) -> Result<(), Refused> {
-        let paged = self.paged.make(Paged::new)?;
-        let was_short = paged.short_slots() > 0;
-        paged.reserve(count)?;
+        let was_short = self.paged.short_slots() > 0;
+        self.paged.reserve(count)?;
         if was_short {
-            self.follow_first(Self::SLOTS);
+            self.follow_first();
         }
         Ok(())
     }
@@ -385,7 +380,7 @@ impl<T> Values<T> {
         self.forget_room();
         if self.fits_short(core, values) {
             self.lengthen(core.len() + values)?;
-            return self.grow_spans(1);
+            return self.grow_spans(usize::from(self.spans.len() == 0));
         }
         let pages = values / Self::SLOTS + usize::from(values % Self::SLOTS != 0);
         self.reserve_blocks(pages)?;
@@ -403,11 +398,15 @@ impl<T> Values<T> {
 
     /// Sees to it that each span has a row.
     fn grow_rows(&mut self) -> Result<(), Refused> {
-        let more = self.spans.most() - self.rows.len();
-        self.rows
-            .try_reserve_exact(more)
-            .map_err(|_| Refused::OutOfMemory)?;
-        self.rows.resize(self.spans.most(), Row::NONE);
+        let most = self.spans.most();
+        let mut rows = Vec::new();
+        if most > self.rows.len() {
+            rows.try_reserve_exact(most)
+                .map_err(|_| Refused::OutOfMemory)?;
+            rows.extend_from_slice(&self.rows);
+            rows.resize(most, Row::NONE);
+            self.rows = rows.into_boxed_slice();
+        }
         Ok(())
     }
 
@@ -459,17 +458,12 @@ impl<T> Values<T> {
     #[cold]
     fn open(&mut self, shard: u32, head: Span) {
         self.forget_room();
-        let (page, block, slots) = self.paged.take();
-        let number = self.spans.insert(head, page, block, slots).number;
-        if let Some(row) = self.rows.get_mut(number as usize) {
+        let (number, page) = self.paged.take();
+        let home = self.spans.insert(head, number, page.block(), page.slots());
+        (page.head, page.shard) = (Some(home.number), shard as u8);
+        if let Some(row) = self.rows.get_mut(home.number as usize) {
             *row = Row::NONE;
         }
-        self.paged.pages[page as usize] = Page {
-            block,
-            head: Some(number),
-            guests: 0,
-            shard: shard as u8,
-        };
     }
 
     /// Where the value of the key is.
@@ -523,7 +517,7 @@ impl<T> Values<T> {
     /// The shard that has the page of this number, or had it when it was last a page.
     #[inline]
     pub fn shard_of(&self, number: u32) -> u32 {
-        u32::from(self.paged.pages[number as usize].shard)
+        u32::from(self.paged.page(number).shard)
     }
 
     /// The slots at which the span of the home has values.
@@ -558,14 +552,14 @@ impl<T> Values<T> {
     /// gives the page back if that has none.
     #[cold]
     fn forget(&mut self, span: u32, page: u32) {
-        let head = self.paged.pages[page as usize].head;
+        let head = self.paged.page(page).head;
         let head = head.expect("a page with values has a head");
         if span != head {
             self.forget_guest(span, page);
         }
         let name = self.spans.name(head);
         let has_none = |home: &Home| home.live == 0;
-        let is_alone = self.paged.pages[page as usize].guests == 0;
+        let is_alone = self.paged.page(page).guests == 0;
         if is_alone && self.spans.find(name).map_or(true, has_none) {
             self.spans.remove(name);
             self.paged.give(page);
@@ -574,7 +568,7 @@ impl<T> Values<T> {
 
     /// Forgets a span that has no value, a guest of the page.
     fn forget_guest(&mut self, span: u32, page: u32) {
-        let on = &mut self.paged.pages[page as usize];
+        let on = self.paged.page_mut(page);
         on.guests -= 1;
         let head = on.head.expect("a page with guests has a head");
         let is_before = |number: &u32| self.rows[*number as usize].next == Some(span);
@@ -596,19 +590,18 @@ impl<T> Values<T> {
             return iter::from_fn(|| walk.next_in(self))
                 .find(|spot| ptr::eq(spot.value::<T>().as_ptr(), at));
         }
-        let paged = self.paged.get()?;
-        let (number, distance) = paged.find(at.cast())?;
-        let page = paged.pages.get(number)?;
+        let (number, distance) = self.paged.find(at.cast())?;
+        let page = self.paged.page(number);
         let slot = u32::try_from(distance / size_of::<T>()).ok()?;
         let has_slot = |number: &u32| {
             let home = self.spans.find_number(*number);
             home.is_some_and(|home| self.has_at(home, slot))
         };
         let span = self.row_from(page.head?).find(has_slot)?;
-        ptr::eq(page.block.value::<T>(slot).as_ptr(), at).then_some(Spot {
+        ptr::eq(page.block().value::<T>(slot).as_ptr(), at).then_some(Spot {
             span: self.spans.name(span),
             slot,
-            block: page.block,
+            block: page.block(),
         })
     }
 

@@ -1,10 +1,12 @@
 //! A page of values, by its address, and a short one of the first slots.
 
+use super::paged::Page;
 use super::{Values, LEAN, VACANT};
 use crate::names::Key;
 use crate::refused::Refused;
 use crate::slots::Slots;
 use std::alloc::{alloc_zeroed, dealloc, Layout};
+use std::marker::PhantomData;
 use std::mem::size_of;
 use std::ptr::NonNull;
 use std::slice;
@@ -161,56 +163,70 @@ impl Block {
     }
 }
 
-/// A block of the first slots of a page, in the global allocator: that of the first page as long as
-/// it is the only one, so that a slab of few values takes little. It is freed with this.
-pub(super) struct ShortBlock {
-    first_byte: NonNull<u8>,
-    layout: Layout,
-    block: Block,
-    slots: usize,
+/// A page in a block of its first slots, in the global allocator: the first page as long as it is
+/// the only one, so that a slab of few values takes little. The block is freed with this.
+pub(super) struct ShortPage<T> {
+    // No page gets another block, nor another number of slots.
+    page: Page,
+    values: PhantomData<T>,
 }
 
-impl ShortBlock {
-    /// A block of so many slots, none of which has a value: at most `MOST_SHORT`, and some.
-    pub fn new<T>(slots: usize) -> Result<ShortBlock, Refused> {
+impl<T> ShortPage<T> {
+    /// A free page of so many slots, none of which has a value: at most `MOST_SHORT`, and some.
+    pub fn new(slots: usize) -> Result<ShortPage<T>, Refused> {
         assert!(0 < slots && slots <= Values::<T>::MOST_SHORT);
-        let bytes = Values::<T>::bytes_of_block(slots);
-        let layout = Layout::from_size_align(bytes, Values::<T>::ALIGN)
-            .expect("a block of few slots has a layout");
         // SAFETY: such a block has bytes. Zeros are generations of slots without a value.
-        let first_byte = NonNull::new(unsafe { alloc_zeroed(layout) });
+        let first_byte = NonNull::new(unsafe { alloc_zeroed(Self::layout(slots)) });
         let first_byte = first_byte.ok_or(Refused::OutOfMemory)?;
-        Ok(ShortBlock {
-            first_byte,
-            layout,
-            // SAFETY: so many bytes stand there.
-            block: unsafe { Block::from_first_byte::<T>(first_byte, slots) },
-            slots,
+        // SAFETY: so many bytes stand there.
+        let block = unsafe { Block::from_first_byte::<T>(first_byte, slots) };
+        Ok(ShortPage {
+            page: Page::free(block, slots as u16),
+            values: PhantomData,
         })
     }
 
-    pub fn block(&self) -> Block {
-        self.block
+    fn layout(slots: usize) -> Layout {
+        let bytes = Values::<T>::bytes_of_block(slots);
+        Layout::from_size_align(bytes, Values::<T>::ALIGN)
+            .expect("a block of few slots has a layout")
+    }
+
+    pub fn page(&self) -> &Page {
+        &self.page
+    }
+
+    pub fn page_mut(&mut self) -> &mut Page {
+        &mut self.page
     }
 
     pub fn slots(&self) -> usize {
-        self.slots
+        self.page.slots().into()
     }
 
-    /// Moves all values to the same slots of another block, which has no value, and at least as
-    /// many slots.
+    /// Moves the page to another one, which is free and has at least as many slots, if it is taken.
     ///
     /// # Safety
     ///
-    /// The other block has so many slots, and whoever finds values here looks there from now on.
-    pub unsafe fn move_all<T>(&self, to: Block) {
-        self.block.copy_slots::<T>(to, self.slots);
+    /// The block of the other page has so many slots, and whoever finds values here looks there from
+    /// now on.
+    pub unsafe fn move_to(&self, to: &mut Page) {
+        if self.page.head.is_some() {
+            let block = self.page.block();
+            block.copy_slots::<T>(to.block(), self.slots());
+            to.take_from(&self.page);
+        }
     }
 }
 
-impl Drop for ShortBlock {
+impl<T> Drop for ShortPage<T> {
     fn drop(&mut self) {
-        // SAFETY: `new` took it with this layout, and its values went before.
-        unsafe { dealloc(self.first_byte.as_ptr(), self.layout) }
+        let (address, slots) = (self.page.block().address().as_ptr(), self.slots());
+        // SAFETY: `new` took the block with this layout, and it begins so many bytes before its
+        // address. Its values went before.
+        unsafe {
+            let first_byte = address.sub(Values::<T>::bytes_before(slots));
+            dealloc(first_byte, Self::layout(slots));
+        }
     }
 }

@@ -1,7 +1,6 @@
 //! Folds, which values follow from page to page, and the moves of pages to blocks of lower numbers.
 
 use super::block::Block;
-use super::paged::Page;
 use super::{is_alone, Row, Values};
 use crate::core::{Core, Stepped};
 use crate::names::Group;
@@ -49,7 +48,7 @@ impl<T> Values<T> {
             live: Slots::NONE,
             next: Some(from.number),
         };
-        let page = &mut self.paged.pages[from.page as usize];
+        let page = self.paged.page_mut(from.page);
         page.head = Some(host);
         page.guests += 1;
         page.shard = owned.shard() as u8;
@@ -93,8 +92,8 @@ impl<T> Values<T> {
             self.move_home(number, to.page, to.block);
             self.rows[number as usize].next = self.rows[host as usize].next.replace(number);
         }
-        let guests = self.paged.pages[from.page as usize].guests + 1;
-        self.paged.pages[to.page as usize].guests += guests;
+        let guests = self.paged.page(from.page).guests + 1;
+        self.paged.page_mut(to.page).guests += guests;
         self.paged.give(from.page);
         self.forget_if_empty(from, to.page);
     }
@@ -118,19 +117,19 @@ impl<T> Values<T> {
     /// Notes that the shard has the group, with its page.
     pub fn note_adopted(&mut self, group: Group, shard: u32) {
         if let Some(home) = self.spans.find(group.head()) {
-            self.paged.pages[home.page as usize].shard = shard as u8;
+            self.paged.page_mut(home.page).shard = shard as u8;
         }
     }
 
-    /// Has the homes of page 0 follow it to a block of so many slots, if it is taken.
-    pub(super) fn follow_first(&mut self, slots: usize) {
-        let Page { block, head, .. } = self.paged.pages[0];
-        let mut next = head;
+    /// Has the homes of page 0 follow it to its block, if it is taken.
+    pub(super) fn follow_first(&mut self) {
+        let page = *self.paged.page(0);
+        let mut next = page.head;
         while let Some(number) = next {
             if let Some(home) = self.spans.home_of(number) {
-                (home.block, home.slots) = (block, slots as u16);
+                (home.block, home.slots) = (page.block(), page.slots());
                 if home.own > 0 {
-                    home.own = slots as u32;
+                    home.own = page.slots().into();
                 }
             }
             next = self.next_on_page(number);
@@ -140,9 +139,7 @@ impl<T> Values<T> {
     /// Hands the memory of all pages without a value to the system.
     pub fn cool(&mut self) {
         self.forget_room();
-        if let Some(paged) = self.paged.get_mut() {
-            paged.cool();
-        }
+        self.paged.cool();
     }
 
     /// Moves at most so many pages of values to blocks of lower numbers, and hands the memory of
@@ -151,36 +148,32 @@ impl<T> Values<T> {
     /// are, no page moves.
     pub fn pack(&mut self, most: usize) -> bool {
         self.cool();
-        let blocks = self.paged.get().and_then(|paged| paged.blocks.get());
+        let blocks = self.paged.full.get().map(|full| &full.blocks);
         let Some(blocks) = blocks.filter(|blocks| blocks.share_pages()) else {
             return false;
         };
         let (mut within, mut end) = (blocks.numbers(), 0);
         for _ in 0..most {
-            let Some((from, to)) = self.paged.blocks.swap_ends(&mut within) else {
+            let Some((from, to)) = self.paged.full.blocks.swap_ends(&mut within) else {
                 break;
             };
             end = end.max(from as usize + 1);
             self.move_page(from, to);
         }
-        self.paged.blocks.release_rest(end);
-        self.paged.blocks.has_gaps()
+        self.paged.full.blocks.release_rest(end);
+        self.paged.full.blocks.has_gaps()
     }
 
     /// Moves the values of a page to the block of the other number, on which no value is.
     fn move_page(&mut self, from: u32, to: u32) {
-        let block = self.paged.full_block(to);
-        let pages = &mut self.paged.pages;
-        let page = std::mem::replace(&mut pages[from as usize], Page::NONE);
-        pages[to as usize] = Page { block, ..page };
-        let mut next = page.head;
+        let (old, block, mut next) = self.paged.renumber(from, to);
         while let Some(number) = next {
             let home = self.spans.find_number(number);
             let slots = home.map_or(Slots::NONE, |home| self.slots_of(home));
             for slot in slots.iter() {
                 // SAFETY: the blocks are two. The slot has a value on the one, where nobody finds
                 // it from now on, and none on the other.
-                unsafe { page.block.move_to::<T>(block, slot) };
+                unsafe { old.move_to::<T>(block, slot) };
             }
             self.move_home(number, to, block);
             next = self.next_on_page(number);

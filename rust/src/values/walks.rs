@@ -92,11 +92,11 @@ impl Walk {
             if !self.front.word.is_empty() {
                 return true;
             }
-            self.front = match self.spans.next() {
-                Some(number) => values.piece(number),
+            match self.spans.next() {
+                Some(number) => values.write_piece(number, &mut self.front),
                 // What is left from the end.
-                None => mem::replace(&mut self.back, Piece::NONE).whole(),
-            };
+                None => self.front = mem::replace(&mut self.back, Piece::NONE).whole(),
+            }
             if self.front.others.is_empty() && self.spans.is_empty() && self.back.whole_is_empty() {
                 return false;
             }
@@ -111,10 +111,10 @@ impl Walk {
             if !self.back.word.is_empty() {
                 return true;
             }
-            self.back = match self.spans.next_back() {
-                Some(number) => values.piece(number),
-                None => mem::replace(&mut self.front, Piece::NONE).whole(),
-            };
+            match self.spans.next_back() {
+                Some(number) => values.write_piece(number, &mut self.back),
+                None => self.back = mem::replace(&mut self.front, Piece::NONE).whole(),
+            }
             if self.back.others.is_empty() && self.spans.is_empty() && self.front.whole_is_empty() {
                 return false;
             }
@@ -133,16 +133,15 @@ impl<T> Values<T> {
         }
     }
 
-    /// The slots at which the span of this number has values.
+    /// Writes the slots at which the span of this number has values in place of a piece of which
+    /// none is left.
     #[inline]
-    fn piece(&self, number: usize) -> Piece {
-        let home = self.spans.find_number(number as u32);
-        home.map_or(Piece::NONE, |home| Piece {
-            span: home.span,
-            block: home.block,
-            word: Word::NONE,
-            others: self.slots_of(home),
-        })
+    fn write_piece(&self, number: usize, piece: &mut Piece) {
+        let Some(home) = self.spans.find_number(number as u32) else {
+            return;
+        };
+        (piece.span, piece.block) = (home.span, home.block);
+        piece.others = self.slots_of(home);
     }
 
     /// The value of a spot of a walk over these, which was not taken out.
