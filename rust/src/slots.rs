@@ -98,25 +98,32 @@ impl Slots {
     #[inline]
     fn take_word(&mut self, number: usize) -> Word {
         let bits = mem::take(&mut self.0[number]);
-        Word { number, bits }
+        let first = slot_at(number, 0);
+        Word { first, bits }
+    }
+
+    /// How many there are.
+    pub fn count(&self) -> usize {
+        self.0.iter().map(|word| word.count_ones() as usize).sum()
     }
 
     /// Adds slots that were taken out.
     pub fn give_back(&mut self, word: Word) {
-        self.0[word.number] |= word.bits;
+        self.0[word_of(word.first)] |= word.bits;
     }
 }
 
 /// Slots that share a word of a set.
 #[derive(Clone, Copy)]
 pub(crate) struct Word {
-    number: usize,
+    // The slot of the lowest bit.
+    first: u32,
     bits: u64,
 }
 
 impl Word {
     /// No slots.
-    pub const NONE: Word = Word { number: 0, bits: 0 };
+    pub const NONE: Word = Word { first: 0, bits: 0 };
 
     /// Whether there are none.
     #[inline]
@@ -127,7 +134,7 @@ impl Word {
     /// Takes the lowest slot out, of which there is one.
     #[inline]
     pub fn pop_first(&mut self) -> u32 {
-        let slot = slot_at(self.number, self.bits.trailing_zeros());
+        let slot = self.first | self.bits.trailing_zeros();
         self.bits &= self.bits.wrapping_sub(1);
         slot
     }
@@ -137,7 +144,12 @@ impl Word {
     pub fn pop_last(&mut self) -> u32 {
         let bit = 63_u32.wrapping_sub(self.bits.leading_zeros());
         self.bits &= !(1_u64.wrapping_shl(bit));
-        slot_at(self.number, bit)
+        self.first | bit
+    }
+
+    /// How many there are.
+    pub fn count(&self) -> usize {
+        self.bits.count_ones() as usize
     }
 }
 

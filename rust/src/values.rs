@@ -586,7 +586,7 @@ impl<T> Values<T> {
             return None;
         }
         if Self::APART {
-            let mut walk = self.walk(0);
+            let mut walk = self.walk(self.spans.iter().map(|home| usize::from(home.live)).sum());
             return iter::from_fn(|| walk.next_in(self))
                 .find(|spot| ptr::eq(spot.value::<T>().as_ptr(), at));
         }

@@ -204,6 +204,11 @@ impl<T> ShortPage<T> {
         self.page.slots().into()
     }
 
+    /// Whether a group has its values here.
+    pub fn is_taken(&self) -> bool {
+        self.page.head.is_some()
+    }
+
     /// Moves the page to another one, which is free and has at least as many slots, if it is taken.
     ///
     /// # Safety
@@ -211,7 +216,7 @@ impl<T> ShortPage<T> {
     /// The block of the other page has so many slots, and whoever finds values here looks there from
     /// now on.
     pub unsafe fn move_to(&self, to: &mut Page) {
-        if self.page.head.is_some() {
+        if self.is_taken() {
             let block = self.page.block();
             block.copy_slots::<T>(to.block(), self.slots());
             to.take_from(&self.page);

@@ -140,7 +140,7 @@ impl<T> Paged<T> {
     /// page 0 has moved, its homes are to follow. If this is refused, blocks that there are by then
     /// stay, and no page has moved.
     pub fn reserve(&mut self, count: usize) -> Result<(), Refused> {
-        let has_first = self.short.as_ref().map_or(false, |short| short.page().head.is_some());
+        let has_first = self.short.as_ref().is_some_and(ShortPage::is_taken);
         let full = self.full.make(FullPages::new::<T>)?;
         full.reserve(count + usize::from(has_first))?;
         if let Some(short) = self.short.take().filter(|_| has_first) {
@@ -182,7 +182,7 @@ impl<T> Paged<T> {
 
     /// Hands the memory of all free pages to the system.
     pub fn cool(&mut self) {
-        if self.short.as_ref().is_some_and(|short| short.page().head.is_none()) {
+        if !self.short.as_ref().is_some_and(ShortPage::is_taken) {
             self.short = None;
         }
         if let Some(full) = self.full.get_mut() {

@@ -14,7 +14,7 @@ pub(crate) struct Walk {
     back: Piece,
     // The spans between the two, by their numbers.
     spans: Range<usize>,
-    // How many values are still to come.
+    // How many values are still to come of these.
     left: usize,
 }
 
@@ -48,6 +48,10 @@ impl Piece {
         self.word.is_empty() && self.others.is_empty()
     }
 
+    fn count(&self) -> usize {
+        self.word.count() + self.others.count()
+    }
+
     /// The same slots, none of them apart from the others.
     fn whole(mut self) -> Piece {
         self.others
@@ -59,7 +63,7 @@ impl Piece {
 impl Walk {
     /// How many values are still to come.
     pub fn left(&self) -> usize {
-        self.left
+        self.left + self.front.count() + self.back.count()
     }
 
     /// The spot that comes next. Values of spots that came may be taken out on the way.
@@ -68,7 +72,6 @@ impl Walk {
         if self.front.word.is_empty() && !self.go_on(values) {
             return None;
         }
-        self.left = self.left.wrapping_sub(1);
         let slot = self.front.word.pop_first();
         Some(self.front.spot(slot))
     }
@@ -79,7 +82,6 @@ impl Walk {
         if self.back.word.is_empty() && !self.go_back(values) {
             return None;
         }
-        self.left = self.left.wrapping_sub(1);
         let slot = self.back.word.pop_last();
         Some(self.back.spot(slot))
     }
@@ -87,17 +89,24 @@ impl Walk {
     /// Goes on to the next word, and says whether there is one.
     #[inline(never)]
     fn go_on<T>(&mut self, values: &Values<T>) -> bool {
+        self.front.word = self.front.others.take_first();
+        !self.front.word.is_empty() || self.go_on_to_span(values)
+    }
+
+    /// The same, of a span behind this one.
+    #[inline(never)]
+    fn go_on_to_span<T>(&mut self, values: &Values<T>) -> bool {
         loop {
+            match self.spans.next() {
+                Some(number) => self.left -= values.write_piece(number, &mut self.front),
+                // What is left from the end.
+                None => self.front = mem::replace(&mut self.back, Piece::NONE).whole(),
+            }
             self.front.word = self.front.others.take_first();
             if !self.front.word.is_empty() {
                 return true;
             }
-            match self.spans.next() {
-                Some(number) => values.write_piece(number, &mut self.front),
-                // What is left from the end.
-                None => self.front = mem::replace(&mut self.back, Piece::NONE).whole(),
-            }
-            if self.front.others.is_empty() && self.spans.is_empty() && self.back.whole_is_empty() {
+            if self.spans.is_empty() && self.back.whole_is_empty() {
                 return false;
             }
         }
@@ -112,7 +121,7 @@ impl Walk {
                 return true;
             }
             match self.spans.next_back() {
-                Some(number) => values.write_piece(number, &mut self.back),
+                Some(number) => self.left -= values.write_piece(number, &mut self.back),
                 None => self.back = mem::replace(&mut self.front, Piece::NONE).whole(),
             }
             if self.back.others.is_empty() && self.spans.is_empty() && self.front.whole_is_empty() {
@@ -134,14 +143,15 @@ impl<T> Values<T> {
     }
 
     /// Writes the slots at which the span of this number has values in place of a piece of which
-    /// none is left.
+    /// none is left, and says how many they are.
     #[inline]
-    fn write_piece(&self, number: usize, piece: &mut Piece) {
+    fn write_piece(&self, number: usize, piece: &mut Piece) -> usize {
         let Some(home) = self.spans.find_number(number as u32) else {
-            return;
+            return 0;
         };
         (piece.span, piece.block) = (home.span, home.block);
         piece.others = self.slots_of(home);
+        home.live.into()
     }
 
     /// The value of a spot of a walk over these, which was not taken out.
@@ -203,6 +213,6 @@ impl<'v, T> WalkMut<'v, T> {
 
     /// How many values are still to come.
     pub fn left(&self) -> usize {
-        self.walk.left
+        self.walk.left()
     }
 }
