@@ -180,7 +180,10 @@ fn bits_one_by_one(numbers: &[u32]) -> u64 {
 }
 
 /// The same of a piece, in as many instructions.
+// Of the mask the lower 16 bits count, and a load asks for no alignment.
 #[cfg(target_arch = "x86_64")]
+#[allow(clippy::cast_possible_truncation, clippy::cast_sign_loss)]
+#[allow(clippy::cast_ptr_alignment)]
 #[inline]
 fn bits_of_piece(numbers: &[u32]) -> u64 {
     use std::arch::x86_64::{

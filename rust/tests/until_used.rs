@@ -97,13 +97,12 @@ fn one_value_takes_little() {
         store.insert(7_u64)?;
         Ok::<_, Refused>(store)
     };
-    for (each, most) in [
-        (bytes_each(core), 2100),
-        (bytes_each(slab), 2700),
-        (bytes_each(store), 2100),
-    ] {
+    let (core, slab, store) = (bytes_each(core), bytes_each(slab), bytes_each(store));
+    for (each, most) in [(core, 2100), (slab, 2100), (store, 2100)] {
         assert!(each <= most, "{each} bytes");
     }
+    // A slab has a block of four values and the home of one span beside its core, and no page.
+    assert!(slab <= core + 256, "{slab} bytes, and a core {core}");
 }
 
 /// What a core that has no key answers to each call, as a text.
