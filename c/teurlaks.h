@@ -50,7 +50,8 @@ extern "C" {
  * has changed then. From TEURLAKS_LOG_FAULT on it is what an audit found. */
 enum {
     TEURLAKS_OK = 0,               /* done, or found */
-    TEURLAKS_NONE = 1,             /* the key is not live; there is no certificate yet */
+    /* the key is not live; there is no certificate yet; a walk is at its end; no seat is left */
+    TEURLAKS_NONE = 1,
     TEURLAKS_OUT_OF_MEMORY = 2,    /* the call may be tried again */
     TEURLAKS_PAGES_SPENT = 3,      /* the shard may have no further page */
     TEURLAKS_ENDED = 4,            /* the shard has ended */
@@ -63,7 +64,8 @@ enum {
     TEURLAKS_EMPTIED = 9,       /* the pair's abandoned group had no live key left */
     TEURLAKS_NO_PAIR_LEFT = 10, /* the open plan is done with */
     TEURLAKS_NO_PLAN = 11,      /* no plan is open */
-    /* the text or the object takes more than there is room for; nothing was written */
+    /* the text or the object takes more than there is room for, or the object has fewer bytes than
+     * were asked for; nothing was written */
     TEURLAKS_TOO_SMALL = 12,
     /* a ring holds as many keys as it may: teurlaks_seat_free_later alone answers it */
     TEURLAKS_RING_FULL = 13,

@@ -17,17 +17,17 @@ TEURLAKS_INLINE const char *teurlaks_strerror(uint32_t status) {
     case TEURLAKS_OK:
         return "done";
     case TEURLAKS_NONE:
-        return "the key is not live, or there is no certificate yet";
+        return "there is none: no such live key, no certificate yet, or no seat left";
     case TEURLAKS_OUT_OF_MEMORY:
         return "out of memory: free some and try again";
     case TEURLAKS_PAGES_SPENT:
         return "the shard may have no further page: free keys, or ask another shard";
     case TEURLAKS_ENDED:
-        return "the shard has ended: ask another shard";
+        return "the shard has ended: begin it again, or ask another shard";
     case TEURLAKS_PLAN_OPEN:
         return "a plan is open: close it first";
     case TEURLAKS_TOO_MANY:
-        return "a side has more than 4096 groups, too many for a plan";
+        return "a side has more than 4096 groups, too many for a plan: mark some of them";
     case TEURLAKS_NOTHING_TO_ADOPT:
         return "no group of the pool has a page: there is nothing to adopt";
     case TEURLAKS_CONFIG:
@@ -39,9 +39,9 @@ TEURLAKS_INLINE const char *teurlaks_strerror(uint32_t status) {
     case TEURLAKS_NO_PLAN:
         return "no plan is open: mark first";
     case TEURLAKS_TOO_SMALL:
-        return "the text or the object takes more than there is room for";
+        return "the text or the object takes more room, or has fewer bytes than asked for";
     case TEURLAKS_RING_FULL:
-        return "a ring holds as many keys as it may";
+        return "the ring is full: free the key here, or try again once the other seat has tended";
     case TEURLAKS_NO_CORE:
         return "the handle has not what the call is for: none was made, or it was dropped";
     case TEURLAKS_HAS_CORE:

@@ -25,6 +25,9 @@ use std::ptr;
 
 /// Objects of 1 to 16 words of 16 bytes under keys, in shards: the proved library as it is.
 ///
+/// Each page that a shard opens has a *span* of keys. The spans that stand on one page are a
+/// *group*: one at first, and more once pages were folded onto it.
+///
 /// A shard that ends leaves its groups to a pool, and one that goes on may leave its sparsest ones
 /// there. A mark plans as many folds of the pool's groups onto those of the shards as can be, and
 /// each step carries one out, which gives one page back. Every key stays valid.

@@ -21,18 +21,20 @@ pub enum Refused {
     /// A plan is open: a mark and an adoption wait for its close, and so do the end and the
     /// retirements of a shard that has a group of the plan.
     PlanOpen,
-    /// A mark would see more than 4,096 groups on a side.
+    /// A mark would see more than 4,096 groups on a side; `mark_some` takes that many of them.
     TooMany,
     /// No group of the pool has a page.
     NothingToAdopt,
-    /// A number is out of its range, or there is no shard of this number.
+    /// A number is out of its range, or there is no shard of this number; or a seat that is to be
+    /// taken back is of another arena.
     Config,
     /// No plan is open.
     NoPlan,
     /// The ring to another seat holds as many keys as it may: that seat is to tend first, or the
     /// key is freed here.
     RingFull,
-    /// Each seat of the arena was handed out.
+    /// Each seat of the arena was handed out: one is to be taken back first
+    /// ([`Arena::take_back`](crate::Arena::take_back)).
     NoSeatLeft,
     /// The run of the arena is recorded, so that nothing is forgotten.
     Recorded,
@@ -88,17 +90,17 @@ impl fmt::Display for Refused {
             Refused::PagesSpent => {
                 "each page that the limits allow is full: free keys, ask another shard, or set `Limits::pages`, `Limits::spans` or `Limits::shards` higher"
             }
-            Refused::Ended => "the shard has ended: ask another shard",
+            Refused::Ended => "the shard has ended: let it begin again, or ask another shard",
             Refused::Running => "the shard has not ended: end it before it begins again",
             Refused::PlanOpen => "a plan is open: close it first",
-            Refused::TooMany => "a side has more than 4096 groups, too many for a plan",
+            Refused::TooMany => "a side has more than 4096 groups, too many for a plan: take `mark_some`",
             Refused::NothingToAdopt => "no group of the pool has a page: there is nothing to adopt",
-            Refused::Config => "a number is out of its range",
+            Refused::Config => "a number is out of its range, or there is no such shard",
             Refused::NoPlan => "no plan is open: mark first",
-            Refused::RingFull => "the ring holds as many keys as it may: tend there, or free the key here",
-            Refused::NoSeatLeft => "each seat of the arena was handed out",
+            Refused::RingFull => "the ring is full: free the key here, or try again once the other seat has tended",
+            Refused::NoSeatLeft => "each seat of the arena was handed out: take one back, or set `Limits::shards` higher",
             Refused::Recorded => "the run is recorded: nothing is forgotten",
-            Refused::Over => "the recorded arena has ended",
+            Refused::Over => "the recorded arena has ended: open another one",
             Refused::Busy => "the call would wait for a session, and its thread is in one: drop that first",
             Refused::Unknown(status) => {
                 return write!(f, "the archive answered {status}, which this crate does not know")

@@ -240,12 +240,8 @@ impl<T: Copy> SharedStore<T> {
         key: Key,
         change: impl FnOnce(&mut T) -> R,
     ) -> Result<Option<R>, Refused> {
-        self.with(key, |store, key| {
-            let mut value = store.get(key)?;
-            let answer = change(&mut value);
-            Some(store.set(key, value).map(|_| answer))
-        })
-        .transpose()
+        self.with(key, |store, key| store.update(key, change).transpose())
+            .transpose()
     }
 
     /// Takes the value of the key out, where it is live. The key finds nothing from then on. Of

@@ -291,6 +291,33 @@ impl<T: Copy> Store<T> {
         Ok(if self.set(key, value)? { before } else { None })
     }
 
+    /// Changes the value of the key by the closure, and gives what that returns, where the key is
+    /// live. Where the closure panics the value stays as it was.
+    ///
+    /// # Errors
+    ///
+    /// As of [`Core::set`](crate::Core::set).
+    ///
+    /// ```
+    /// # use teurlaks::Store;
+    /// let mut hits = Store::new()?;
+    /// let page = hits.insert(0_u64)?;
+    /// let before = hits.update(page, |count| std::mem::replace(count, 7))?;
+    /// assert_eq!((before, hits.get(page)), (Some(0), Some(7)));
+    /// # Ok::<(), teurlaks::Refused>(())
+    /// ```
+    pub fn update<R>(
+        &mut self,
+        key: Key,
+        change: impl FnOnce(&mut T) -> R,
+    ) -> Result<Option<R>, Refused> {
+        let Some(mut value) = self.get(key) else {
+            return Ok(None);
+        };
+        let answer = change(&mut value);
+        Ok(self.set(key, value)?.then_some(answer))
+    }
+
     /// The value of the key, where it is live.
     #[inline]
     #[must_use]

@@ -4,6 +4,7 @@ mod common;
 
 use common::Random;
 use std::collections::HashMap;
+use std::panic::{catch_unwind, AssertUnwindSafe};
 use std::rc::Rc;
 use teurlaks::{Core, Key, Limits, Refused, Slab, Stepped, Store};
 
@@ -151,11 +152,18 @@ fn a_store_sets_in_place() -> Result<(), Refused> {
     let key = store.insert([1u64; 5])?;
     assert!(store.set(key, [2; 5])?);
     assert_eq!(store.replace(key, [3; 5])?, Some([2; 5]));
-    assert_eq!(store.remove(key), Some([3; 5]));
+    assert_eq!(store.update(key, |value| value[0] += 4)?, Some(()));
+    let panics = |value: &mut [u64; 5]| {
+        value[0] = 9;
+        assert_eq!(value[1], 9);
+    };
+    assert!(catch_unwind(AssertUnwindSafe(|| store.update(key, panics))).is_err());
+    assert_eq!(store.remove(key), Some([7, 3, 3, 3, 3]));
     assert_eq!(
         (store.set(key, [4; 5])?, store.replace(key, [4; 5])?),
         (false, None)
     );
+    assert_eq!(store.update(key, |_| unreachable!())?, None::<()>);
     Ok(())
 }
 

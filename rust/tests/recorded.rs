@@ -145,6 +145,7 @@ fn a_seat_of_another_arena_is_not_taken_back() {
         for to in (0..arenas.len()).filter(|to| *to != of) {
             let back = arenas[to].take_back(seat).unwrap_err();
             assert_eq!(back.refused, Refused::Config);
+            assert!(back.to_string().ends_with("it is of another arena"));
             seat = back.seat;
         }
         assert_eq!(seat.get(key), Some(of as u64));
@@ -277,7 +278,7 @@ fn a_seat_goes_back_with_all_its_shards() {
 fn faults_have_words() {
     assert_eq!(
         AuditError::Fault(AuditCause::Reply).to_string(),
-        "audit: reply"
+        "audit: reply: a call was not answered as the changes before it say"
     );
     assert_eq!(
         AuditError::Unfinished.to_string(),

@@ -24,6 +24,19 @@ pub enum AuditCause {
     Barrier,
 }
 
+impl AuditCause {
+    /// What fails, in words.
+    fn words(self) -> &'static str {
+        match self {
+            AuditCause::Log => "a log is not legal, or a span has two",
+            AuditCause::Change => "changes and receipts are not one to one",
+            AuditCause::Reply => "a call was not answered as the changes before it say",
+            AuditCause::Order => "the calls of a seat are not in the order of their changes",
+            AuditCause::Barrier => "a call stands before one of an earlier section",
+        }
+    }
+}
+
 impl fmt::Display for AuditCause {
     fn fmt(&self, f: &mut fmt::Formatter<'_>) -> fmt::Result {
         f.write_str(match self {
@@ -74,7 +87,7 @@ impl AuditError {
 impl fmt::Display for AuditError {
     fn fmt(&self, f: &mut fmt::Formatter<'_>) -> fmt::Result {
         match self {
-            AuditError::Fault(cause) => write!(f, "audit: {cause}"),
+            AuditError::Fault(cause) => write!(f, "audit: {cause}: {}", cause.words()),
             AuditError::Unfinished => {
                 f.write_str("a seat is not back: have the arena take it back first")
             }
@@ -104,7 +117,10 @@ pub struct NotTaken<T> {
 
 impl<T> fmt::Display for NotTaken<T> {
     fn fmt(&self, f: &mut fmt::Formatter<'_>) -> fmt::Result {
-        write!(f, "the seat was not taken back: {}", self.refused)
+        match self.refused {
+            Refused::Config => f.write_str("the seat was not taken back: it is of another arena"),
+            refused => write!(f, "the seat was not taken back: {refused}"),
+        }
     }
 }
 

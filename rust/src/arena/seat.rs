@@ -600,6 +600,9 @@ impl<T> Seat<T> {
     /// several shards each moves up to its part of that number, and a refusal of one is told where
     /// none has moved any before it.
     ///
+    /// The pool's pages are folded onto those that stay in shards. So if all seats retire all that
+    /// they have, nothing is folded: half of the pages is a good number.
+    ///
     /// # Errors
     ///
     /// - [`Refused::Ended`]: the shard has ended;
