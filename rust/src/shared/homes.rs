@@ -32,7 +32,12 @@ impl Homes {
     /// Homes in so many shards, 1 to 64: as far apart as they can be where as many threads as twice
     /// the processors have some of their own.
     pub fn new(shards: usize) -> Homes {
-        let threads = 2 * thread::available_parallelism().map_or(1, usize::from);
+        let processors = thread::available_parallelism().map_or(1, usize::from);
+        Homes::of_threads(shards, 2 * processors)
+    }
+
+    /// The same where so many threads have some of their own.
+    fn of_threads(shards: usize, threads: usize) -> Homes {
         let turns = (shards / threads).clamp(1, TURNS);
         let all = shards.min(threads * turns);
         let apart = shards / all;
@@ -95,9 +100,12 @@ impl Home<'_> {
     /// The shards from this one up to the next home, which come before all others where this one is
     /// full, from the one after this on.
     pub fn beside(self) -> impl Iterator<Item = u8> + Clone {
-        let (here, apart) = (usize::from(self.shard()), self.homes.apart);
+        let Homes { shards, apart, .. } = *self.homes;
+        let here = usize::from(self.shard());
         let first = here / apart * apart;
-        (1..apart).map(move |more| (first + (here - first + more) % apart) as u8)
+        // Behind the last home there may be fewer.
+        let count = apart.min(shards - first);
+        (1..count).map(move |more| (first + (here - first + more) % count) as u8)
     }
 
     /// All shards, from the next home on.
@@ -105,5 +113,40 @@ impl Home<'_> {
         let Homes { shards, apart, .. } = *self.homes;
         let first = usize::from(self.shard()) / apart * apart;
         (0..shards).map(move |more| ((first + apart + more) % shards) as u8)
+    }
+}
+
+#[cfg(test)]
+mod tests {
+    use super::{Home, Homes};
+    use std::collections::BTreeSet;
+    use std::sync::atomic::{AtomicU8, Ordering};
+
+    /// A thread at any shard comes to all others, and to none that there is not.
+    #[test]
+    fn each_shard_is_there() {
+        for (shards, threads) in (1..=64).flat_map(|shards| [2, 4, 6, 8, 64].map(|it| (shards, it)))
+        {
+            let homes = Homes::of_threads(shards, threads);
+            let is_there = |shard: u8| usize::from(shard) < shards;
+            assert!(homes
+                .of
+                .iter()
+                .all(|at| is_there(at.load(Ordering::Relaxed))));
+            for here in 0..shards as u8 {
+                let at = AtomicU8::new(here);
+                let home = Home {
+                    homes: &homes,
+                    at: &at,
+                };
+                let beside: Vec<_> = home.beside().chain([here]).collect();
+                assert!(beside.iter().all(|shard| is_there(*shard)));
+                assert_eq!(BTreeSet::from_iter(&beside).len(), beside.len());
+                let all = BTreeSet::from_iter(home.all());
+                assert!(all.into_iter().eq(0..shards as u8));
+                home.move_on();
+                assert!(is_there(home.shard()) && (home.shard() != here || shards == 1));
+            }
+        }
     }
 }

@@ -78,9 +78,7 @@ impl<T> Shard<T> {
         let mut left = usize::MAX;
         let done = self.compact_pieces(&mut pool, &mut left);
         if done.is_err() {
-            pool.is_under_way = false;
-            pool.pages = 0;
-            self.piece(Store::give_up_compaction);
+            self.give_up_in(&mut pool);
         }
         done.map(|done| done.pages)
     }
@@ -92,7 +90,12 @@ impl<T> Shard<T> {
 
     /// Ends a compaction that is under way, where it is.
     pub fn give_up(&self) {
-        let mut pool = self.lock_pool();
+        self.give_up_in(&mut self.lock_pool());
+    }
+
+    /// The pages that went in refused parts of it are not counted any more.
+    fn give_up_in(&self, pool: &mut Pool) {
+        pool.pages = 0;
         if std::mem::take(&mut pool.is_under_way) {
             self.piece(Store::give_up_compaction);
         }
@@ -158,5 +161,25 @@ impl<T: Copy> Shard<T> {
             Some(store) => Ok(store),
             None => Ok(held.insert(Store::with_limits(limits)?)),
         }
+    }
+}
+
+#[cfg(test)]
+mod tests {
+    use super::Shard;
+    use crate::core::Limits;
+    use crate::refused::Refused;
+
+    /// What went in a compaction that was given up is no part of the next one.
+    #[test]
+    fn what_is_given_up_is_not_counted() -> Result<(), Refused> {
+        let shard = Shard::new();
+        Shard::open(&mut shard.lock(), Limits::default())?.insert(7)?;
+        let mut pool = shard.lock_pool();
+        (pool.is_there, pool.is_under_way, pool.pages) = (true, true, 3);
+        drop(pool);
+        shard.give_up();
+        assert_eq!(shard.compact(), Ok(0));
+        Ok(())
     }
 }

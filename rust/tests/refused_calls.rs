@@ -1,0 +1,417 @@
+//! Each allocation that the library asks for in a call is refused in turn: the call says so, what
+//! it leaves is sound, and it may be made again. `tests/refused_memory.rs` refuses what this crate
+//! asks for by itself.
+
+use std::alloc::{GlobalAlloc, Layout, System};
+use std::cell::Cell;
+use std::ffi::c_void;
+use std::ptr;
+use teurlaks::arena::Seat;
+use teurlaks::{Arena, Compacted, Core, Key, Limits, Refused, SharedStore, Store};
+
+thread_local! {
+    // How many allocations of the library are made before one is refused.
+    static LEFT: Cell<usize> = const { Cell::new(usize::MAX) };
+    // Whether this crate asks, which is refused nothing.
+    static IN_RUST: Cell<bool> = const { Cell::new(false) };
+}
+
+extern "C" {
+    fn __libc_malloc(size: usize) -> *mut c_void;
+    fn __libc_realloc(at: *mut c_void, size: usize) -> *mut c_void;
+}
+
+fn is_refused() -> bool {
+    if IN_RUST.with(Cell::get) {
+        return false;
+    }
+    LEFT.with(|left| {
+        let now = left.get();
+        left.set(if now == 0 { usize::MAX } else { now - 1 });
+        now == 0
+    })
+}
+
+/// The library's calls come here, as all of the process do.
+#[no_mangle]
+extern "C" fn malloc(size: usize) -> *mut c_void {
+    if is_refused() {
+        return ptr::null_mut();
+    }
+    // SAFETY: any size may be asked for.
+    unsafe { __libc_malloc(size) }
+}
+
+/// # Safety
+///
+/// As of the system's.
+#[no_mangle]
+unsafe extern "C" fn realloc(at: *mut c_void, size: usize) -> *mut c_void {
+    if is_refused() {
+        return ptr::null_mut();
+    }
+    __libc_realloc(at, size)
+}
+
+/// The system's allocator, which notes that Rust asks.
+struct Noted;
+
+fn in_rust<R>(call: impl FnOnce() -> R) -> R {
+    let before = IN_RUST.with(|is| is.replace(true));
+    let done = call();
+    IN_RUST.with(|is| is.set(before));
+    done
+}
+
+// SAFETY: all is the system's allocator's.
+unsafe impl GlobalAlloc for Noted {
+    unsafe fn alloc(&self, layout: Layout) -> *mut u8 {
+        in_rust(|| System.alloc(layout))
+    }
+
+    unsafe fn realloc(&self, at: *mut u8, layout: Layout, bytes: usize) -> *mut u8 {
+        in_rust(|| System.realloc(at, layout, bytes))
+    }
+
+    unsafe fn dealloc(&self, at: *mut u8, layout: Layout) {
+        System.dealloc(at, layout);
+    }
+}
+
+#[global_allocator]
+static ALLOCATOR: Noted = Noted;
+
+/// What the call gives if the allocation of this number is refused, and whether that came to be.
+fn with_refusal<R>(number: usize, call: impl FnOnce() -> R) -> (R, bool) {
+    LEFT.with(|left| left.set(number));
+    let done = call();
+    let left = LEFT.with(|left| left.replace(usize::MAX));
+    // A count that was passed by begins anew from the greatest number.
+    (done, left > number)
+}
+
+/// Makes the call on what is made anew each time, with each of its allocations refused, and has
+/// what comes of that looked at; and says how many were refused.
+fn each_refused<S, A>(
+    make: impl Fn() -> Result<S, Refused>,
+    call: impl Fn(&mut S) -> A,
+    after: impl Fn(S, A, bool) -> Result<(), Refused>,
+) -> Result<usize, Refused> {
+    for number in 0.. {
+        let mut made = make()?;
+        let (done, was_refused) = with_refusal(number, || call(&mut made));
+        after(made, done, was_refused)?;
+        if !was_refused {
+            return Ok(number);
+        }
+    }
+    unreachable!("some call is refused nothing")
+}
+
+const TWO_SHARDS: Limits = Limits {
+    shards: 2,
+    pages: 64,
+    spans: u32::MAX,
+    generations: u32::MAX,
+};
+
+/// Whether the number's value stays on a sparse page.
+fn stays(number: usize) -> bool {
+    number % 17 == 3
+}
+
+/// A core of two shards with some pages each, one in 17 of whose keys are live.
+fn sparse_core() -> Result<(Core, Vec<Key>), Refused> {
+    let mut core = Core::new(TWO_SHARDS)?;
+    let keys: Vec<_> = (0..5000)
+        .map(|number| core.insert(number % 2, number.into()))
+        .collect::<Result<_, _>>()?;
+    for (number, key) in keys.iter().enumerate() {
+        assert!(stays(number) || core.free(*key));
+    }
+    Ok((core, keys))
+}
+
+fn finds(get: impl Fn(Key) -> Option<u128>, keys: &[Key]) -> bool {
+    let mut all = keys.iter().enumerate();
+    all.all(|(number, key)| get(*key) == stays(number).then_some(number as u128))
+}
+
+#[test]
+fn meshes_of_a_core() -> Result<(), Refused> {
+    let refusals = each_refused(
+        || {
+            let (mut core, keys) = sparse_core()?;
+            core.end(0)?;
+            Ok((core, keys))
+        },
+        |(core, _)| core.mesh(),
+        |(mut core, keys), done, was_refused| {
+            assert_eq!(done.is_err(), was_refused);
+            assert_eq!(core.close(), Err(Refused::NoPlan));
+            assert!(finds(|key| core.get(key), &keys));
+            if was_refused {
+                assert_eq!(done, Err(Refused::OutOfMemory));
+                let pages = core.pages();
+                assert_eq!(core.mesh()? + core.pages(), pages);
+            }
+            assert!(core.pages() <= 12 && finds(|key| core.get(key), &keys));
+            Ok(())
+        },
+    )?;
+    assert!(refusals > 5, "{refusals}");
+    Ok(())
+}
+
+/// A compaction that is refused has no plan open, and leaves what it can to the shards.
+#[test]
+fn compactions_of_a_core() -> Result<(), Refused> {
+    let refusals = each_refused(
+        sparse_core,
+        |(core, _)| core.compact(),
+        |(mut core, keys), done, was_refused| {
+            assert_eq!(done.is_err(), was_refused);
+            assert_eq!(
+                (core.close(), core.adopt(0)),
+                (Err(Refused::NoPlan), Err(Refused::NothingToAdopt))
+            );
+            assert!(finds(|key| core.get(key), &keys));
+            let pages = core.pages();
+            assert_eq!(core.compact()? + core.pages(), pages);
+            assert!(core.pages() < 10 && finds(|key| core.get(key), &keys));
+            Ok(())
+        },
+    )?;
+    assert!(refusals > 5, "{refusals}");
+    Ok(())
+}
+
+/// Takes parts of a compaction, each of which may be refused, and says how many pages went.
+fn in_parts(mut part: impl FnMut() -> Result<Compacted, Refused>) -> usize {
+    let mut gone = 0;
+    loop {
+        match part() {
+            Ok(done) => {
+                gone += done.pages;
+                if !done.more {
+                    return gone;
+                }
+            }
+            Err(refused) => assert_eq!(refused, Refused::OutOfMemory),
+        }
+    }
+}
+
+/// The pages that went in a part that was refused are counted by a later one.
+#[test]
+fn parts_of_compactions() -> Result<(), Refused> {
+    let core = each_refused(
+        sparse_core,
+        |(core, _)| (core.pages(), in_parts(|| core.compact_within(4))),
+        |(core, keys), (pages, gone), _| {
+            assert_eq!(core.pages() + gone, pages);
+            assert!(gone > 8 && finds(|key| core.get(key), &keys));
+            Ok(())
+        },
+    )?;
+    let shared = each_refused(
+        sparse_shared,
+        |(store, _)| (store.pages(), in_parts(|| store.compact_within(4))),
+        |(store, keys), (pages, gone), _| {
+            assert_eq!(store.pages() + gone, pages);
+            assert!(gone > 8 && finds(|key| store.get(key).map(|value| value[0]), &keys));
+            Ok(())
+        },
+    )?;
+    assert!(core > 5 && shared > 5, "{core} and {shared}");
+    Ok(())
+}
+
+fn sparse_shared() -> Result<(SharedStore<[u128; 2]>, Vec<Key>), Refused> {
+    let store = SharedStore::with_limits(TWO_SHARDS)?;
+    let keys: Vec<_> = (0..2500)
+        .map(|number| store.insert([number; 2]))
+        .collect::<Result<_, _>>()?;
+    store.retain(|_, value| stays(value[0] as usize));
+    Ok((store, keys))
+}
+
+#[test]
+fn compactions_of_a_shared_store() -> Result<(), Refused> {
+    let refusals = each_refused(
+        sparse_shared,
+        |(store, _)| store.compact(),
+        |(store, keys), done, was_refused| {
+            assert_eq!(done.is_err(), was_refused);
+            let pages = store.pages();
+            assert_eq!(store.compact()? + store.pages(), pages);
+            assert!(store.pages() < 10);
+            assert!(finds(|key| store.get(key).map(|value| value[0]), &keys));
+            // Nothing is left in a pool, where it would take no value.
+            let pages = store.pages();
+            for _ in store.len()..pages * 128 {
+                store.insert([0; 2])?;
+            }
+            assert!(store.pages() <= pages + 1);
+            Ok(())
+        },
+    )?;
+    assert!(refusals > 5, "{refusals}");
+    Ok(())
+}
+
+/// What was put before the refusal stays, and its keys are there.
+#[test]
+fn inserts() -> Result<(), Refused> {
+    let words: Vec<u128> = (0..1000).collect();
+    let many = each_refused(
+        || Ok((Core::new(TWO_SHARDS)?, Vec::with_capacity(1000))),
+        |(core, keys)| core.insert_many(0, &words, keys),
+        |(core, keys), done, was_refused| {
+            assert_eq!((done.is_err(), core.len()), (was_refused, keys.len()));
+            assert!(core
+                .get_many(&keys)
+                .eq(words[..keys.len()].iter().map(|word| Some(*word))));
+            Ok(())
+        },
+    )?;
+    let with_key = each_refused(
+        Store::new,
+        |store| store.insert_with_key(|key| (key, 7_u64)),
+        |mut store, done, was_refused| {
+            assert_eq!(
+                (done.is_err(), store.len()),
+                (was_refused, usize::from(!was_refused))
+            );
+            let key = store.insert_with_key(|key| (key, 8))?;
+            assert_eq!(store.get(key), Some((key, 8)));
+            Ok(())
+        },
+    )?;
+    // One page of one generation, which makes way for another one.
+    let worn = each_refused(
+        || {
+            let limits = Limits {
+                shards: 1,
+                pages: 1,
+                generations: 1,
+                ..TWO_SHARDS
+            };
+            let mut core = Core::new(limits)?;
+            let keys: Vec<_> = (0..256)
+                .map(|word| core.insert(0, word))
+                .collect::<Result<_, _>>()?;
+            assert_eq!(core.free_many(&keys), 256);
+            Ok(core)
+        },
+        |core| core.insert(0, 7),
+        |mut core, done, was_refused| {
+            assert_eq!(
+                (done.is_err(), core.len()),
+                (was_refused, usize::from(!was_refused))
+            );
+            assert!(
+                matches!(done, Ok(_) | Err(Refused::OutOfMemory)),
+                "{done:?}"
+            );
+            assert!(!core.is_ended(0));
+            let key = core.insert(0, 8)?;
+            assert_eq!(core.get(key), Some(8));
+            Ok(())
+        },
+    )?;
+    assert!(
+        many > 2 && with_key > 2 && worn > 0,
+        "{many}, {with_key} and {worn}"
+    );
+    Ok(())
+}
+
+/// No seat is lost that was not handed out, or not taken back.
+#[test]
+fn seats() -> Result<(), Refused> {
+    let refusals = each_refused(
+        || Arena::<u64>::with_lanes(TWO_SHARDS, 8, 3),
+        Arena::seat,
+        |mut arena, seat, was_refused| {
+            assert_eq!(seat.is_err(), was_refused);
+            let mut seats: Vec<Seat<u64>> = seat.into_iter().collect();
+            while seats.len() < 2 {
+                seats.push(arena.seat()?);
+            }
+            assert_eq!(arena.seat().err(), Some(Refused::NoSeatLeft));
+            for seat in &mut seats {
+                (0..192).try_for_each(|number| seat.insert(number).map(drop))?;
+            }
+            assert_eq!(arena.totals().pages, 6);
+            Ok(())
+        },
+    )?;
+    assert!(refusals > 2, "{refusals}");
+    Ok(())
+}
+
+/// Two seats of three shards each, with sparse pages.
+fn sparse_arena() -> Result<(Arena<u128>, Vec<Seat<u128>>, Vec<Key>), Refused> {
+    let mut arena = Arena::with_lanes(TWO_SHARDS, 8, 3)?;
+    let mut seats = vec![arena.seat()?, arena.seat()?];
+    let keys: Vec<_> = (0..5000)
+        .map(|number| seats[number as usize % 2].insert(number))
+        .collect::<Result<_, _>>()?;
+    for (number, key) in keys.iter().enumerate() {
+        assert!(stays(number) || seats[0].free(*key));
+    }
+    Ok((arena, seats, keys))
+}
+
+#[test]
+fn calls_of_an_arena() -> Result<(), Refused> {
+    let mesh = each_refused(
+        || {
+            let mut made = sparse_arena()?;
+            assert!(made.1[0].retire(9)? > 3);
+            Ok(made)
+        },
+        |(arena, ..)| arena.mesh(),
+        |(mut arena, seats, keys), done, was_refused| {
+            assert_eq!(done.is_err(), was_refused);
+            assert_eq!(arena.close(), Err(Refused::NoPlan));
+            let pages = arena.totals().pages;
+            assert_eq!(arena.mesh()? + arena.totals().pages, pages);
+            assert!(finds(|key| seats[1].get(key), &keys));
+            Ok(())
+        },
+    )?;
+    // Of several shards all end or none.
+    let end = each_refused(
+        sparse_arena,
+        |(_, seats, _)| seats[0].end(),
+        |(_, mut seats, keys), done, was_refused| {
+            assert_eq!(done.is_err(), was_refused);
+            let kept = (0..192).try_for_each(|number| seats[0].insert(number).map(drop));
+            assert_eq!(kept.is_ok(), was_refused);
+            assert!(finds(|key| seats[1].get(key), &keys));
+            Ok(())
+        },
+    )?;
+    // A refusal is told if no shard has moved a group before it.
+    let retire = each_refused(
+        sparse_arena,
+        |(_, seats, _)| seats[0].retire(6),
+        |(mut arena, mut seats, keys), done, was_refused| {
+            let gone = done.unwrap_or(0);
+            assert!(if was_refused { gone < 6 } else { gone == 6 });
+            assert_eq!(done.is_err(), gone == 0);
+            let pages = arena.totals().pages;
+            let adopted = (0..9).map_while(|_| seats[1].adopt().ok()).count();
+            assert_eq!((adopted, arena.totals().pages), (gone, pages));
+            assert!(finds(|key| seats[1].get(key), &keys));
+            Ok(())
+        },
+    )?;
+    assert!(
+        mesh > 5 && end > 2 && retire > 2,
+        "{mesh}, {end} and {retire}"
+    );
+    Ok(())
+}
