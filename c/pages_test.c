@@ -13,6 +13,7 @@
 #include <stdlib.h>
 #include <string.h>
 #include <sys/resource.h>
+#include <sys/uio.h>
 #include <unistd.h>
 
 #ifndef ROUNDS
@@ -35,6 +36,8 @@ static int refuse_mprotect, refuse_malloc, refuse_syscall, are_apart;
 static size_t most = SIZE_MAX;      /* bytes that a call of mmap may ask for */
 static size_t most_runs = SIZE_MAX; /* how many runs one call takes */
 static int at_once;                 /* how often several were to be taken so, if that is refused */
+static int takes_meanwhile;         /* whether a block is asked for while the system takes pages */
+static uint8_t *meanwhile;          /* that block */
 void *__real_mmap(void *, size_t, int, int, int, long), *__real_malloc(size_t);
 int __real_mprotect(void *, size_t, int);
 long __real_syscall(long, ...);
@@ -47,6 +50,15 @@ int __wrap_mprotect(void *at, size_t size, int protection) {
     return refuse_mprotect ? -1 : __real_mprotect(at, size, protection);
 }
 
+static void *alloc(size_t size, int mark);
+
+/* While the system takes pages, none of their blocks is in anybody's hand. */
+static void take_meanwhile(const struct iovec *runs, size_t many) {
+    meanwhile = alloc(1024, 3);
+    for (size_t i = 0; i < many; i++)
+        WANT((uintptr_t)meanwhile - (uintptr_t)runs[i].iov_base >= runs[i].iov_len);
+}
+
 /* pages.c makes one call so, process_madvise, whose words these are. */
 long __wrap_syscall(long number, ...) {
     va_list words;
@@ -56,6 +68,7 @@ long __wrap_syscall(long number, ...) {
     size_t many = va_arg(words, size_t);
     int advice = va_arg(words, int), flags = va_arg(words, int);
     va_end(words);
+    if (takes_meanwhile && !meanwhile) take_meanwhile(runs, many);
     if (refuse_syscall) return at_once++, -1;
     if (many > most_runs) many = most_runs;
     return __real_syscall(number, process, runs, many, advice, flags);
@@ -208,6 +221,13 @@ static void leave_and_come(void) {
     }
 }
 
+/* The block, whose size changes. */
+static void *changed(void *at, size_t old, size_t size) {
+    struct got got = rattle_realloc(at, old, size, 16);
+    WANT(got.ok && is_whole(&(struct kept){got.at, old, 1}, old < size ? old : size));
+    return got.at;
+}
+
 /* Where nothing is in use any more, hardly anything stays, also where malloc has learnt to keep
  * much: a block that it had mapped and that was freed has glibc keep up to twice as much from then
  * on. */
@@ -217,11 +237,42 @@ static void all_goes(void) {
     for (int i = 0; i < COUNT; i++) page[i] = alloc(448, 1);
     for (int i = 0; i < COUNT; i++) rattle_dealloc(page[i]);
     WANT(WATCHED || resident() - before < 1024);
+    for (int i = 0; i < COUNT; i++) page[i] = changed(alloc(16, 1), 16, 448);
+    for (int i = 0; i < COUNT; i++) rattle_dealloc(page[i]);
+    WANT(WATCHED || resident() - before < 1024);
     rattle_dealloc(alloc(4096, 1));
+    rattle_dealloc(alloc(1024, 1));
     long empty = resident();
     for (int i = 0; i < 32; i++) page[i] = alloc(4096, 1);
     for (int i = 0; i < 32; i++) rattle_dealloc(page[i]);
     WANT(WATCHED || resident() <= empty);
+    for (int i = 0; i < 128; i++) quarter[i] = alloc(1024, 1);
+    for (int i = 0; i < 128; i++) rattle_dealloc(quarter[i]);
+    WANT(WATCHED || resident() <= empty);
+}
+
+/* A block whose size changes is the next of its former size. */
+static void comes_again(size_t size) {
+    uint8_t *at = alloc(size, 1), *now = changed(at, size, 9216), *again = alloc(size, 1);
+    WANT(again == at);
+    rattle_dealloc(now);
+    rattle_dealloc(again);
+}
+
+/* Every second page goes, each by itself, and blocks are asked for meanwhile. */
+static void goes_meanwhile(void) {
+    enum { QUARTERS = 4 * 2 * 64 };
+    for (int i = 0; i < QUARTERS; i++) quarter[i] = alloc(1024, 2);
+    takes_meanwhile = 1;
+    for (int i = 0; i < QUARTERS; i++)
+        if (i / 4 % 2 == 0) rattle_dealloc(quarter[i]);
+    takes_meanwhile = 0;
+#ifndef KEEP
+    WANT(meanwhile || refuse_syscall);
+#endif
+    if (meanwhile) rattle_dealloc(meanwhile);
+    for (int i = 0; i < QUARTERS; i++)
+        if (i / 4 % 2) rattle_dealloc(quarter[i]);
 }
 #endif
 
@@ -280,6 +331,9 @@ int main(int argc, char **argv) {
         }
 #ifndef FEW
         all_goes();
+        comes_again(4096);
+        comes_again(1024);
+        goes_meanwhile();
         WANT(at_once == refuse_syscall);
 #endif
     }

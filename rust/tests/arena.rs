@@ -751,8 +751,10 @@ fn a_seat_has_several_shards() -> Result<(), Refused> {
         (3, Err(Refused::PagesSpent))
     );
     // Whichever has room.
-    assert!(here.free(keys[100]));
-    keys[100] = here.insert(100)?;
+    for n in [100, 0, 64, 128, 0] {
+        assert!(here.free(keys[n as usize]));
+        keys[n as usize] = here.insert(n)?;
+    }
     keys[..8]
         .iter()
         .try_for_each(|key| there.free_later(*key))?;
@@ -791,6 +793,45 @@ fn a_seat_has_several_shards() -> Result<(), Refused> {
         .iter()
         .zip(0..)
         .all(|(key, n)| here.get(*key) == Some(n)));
+    Ok(())
+}
+
+#[test]
+fn a_seat_trims_all_of_its_shards() -> Result<(), Refused> {
+    let mut arena = Arena::with_lanes(limits(1, 4), 8, 3)?;
+    let mut seat = arena.seat()?;
+    let keys: Vec<_> = (0..192).map(|n| seat.insert(n)).collect::<Result<_, _>>()?;
+    assert_eq!(arena.totals().pages, 3);
+    assert!(keys.iter().all(|key| seat.free(*key)));
+    assert_eq!((seat.trim(), seat.trim(), arena.totals().pages), (3, 0, 0));
+    Ok(())
+}
+
+/// Of threads that take out the same keys, one has the value of each.
+#[test]
+fn one_of_all_who_remove_a_key_has_its_value() -> Result<(), Refused> {
+    const KEYS: usize = 4000;
+    let mut arena = Arena::open(limits(4, 64))?;
+    let mut seats = (0..4)
+        .map(|_| arena.seat())
+        .collect::<Result<Vec<_>, _>>()?;
+    let keys: Vec<Key> = (0..KEYS)
+        .map(|n| seats[n % 4].insert(n))
+        .collect::<Result<_, _>>()?;
+    let begun = &Barrier::new(4);
+    let take_all = |seat: &mut Seat<usize>| {
+        begun.wait();
+        keys.iter().filter_map(|key| seat.remove(*key)).count()
+    };
+    let taken: usize = thread::scope(|scope| {
+        let work = |seat| scope.spawn(move || take_all(seat));
+        let workers: Vec<_> = seats.iter_mut().map(work).collect();
+        workers
+            .into_iter()
+            .map(|worker| worker.join().unwrap())
+            .sum()
+    });
+    assert_eq!((taken, arena.totals().live), (KEYS, 0));
     Ok(())
 }
 

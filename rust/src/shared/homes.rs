@@ -125,8 +125,7 @@ mod tests {
     /// A thread at any shard comes to all others, and to none that there is not.
     #[test]
     fn each_shard_is_there() {
-        for (shards, threads) in (1..=64).flat_map(|shards| [2, 4, 6, 8, 64].map(|it| (shards, it)))
-        {
+        for (shards, threads) in (1..=64).flat_map(|shards| [2, 6, 8].map(|it| (shards, it))) {
             let homes = Homes::of_threads(shards, threads);
             let is_there = |shard: u8| usize::from(shard) < shards;
             assert!(homes
