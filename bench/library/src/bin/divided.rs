@@ -37,8 +37,8 @@ fn left(pages: &[Occupied], slots: usize) -> Result<usize, Refused> {
 
 fn main() -> ExitCode {
     let slots = std::env::args().nth(1).and_then(|word| word.parse().ok());
-    let Some(slots @ (16 | 64 | 256)) = slots else {
-        eprintln!("divided 16|64|256");
+    let Some(slots @ 16..=256) = slots else {
+        eprintln!("divided SLOTS, of 16 to 256");
         return ExitCode::from(2);
     };
     match pages::read().map(|pages| left(&pages, slots)) {

@@ -104,7 +104,7 @@ fn main() -> ExitCode {
     let words: Vec<String> = std::env::args().skip(1).collect();
     let number = |at: usize| words.get(at).and_then(|word| word.parse::<usize>().ok());
     let done = match (words.first().map(String::as_str), number(1), number(2)) {
-        (Some("pages"), Some(slots @ (16 | 64 | 256)), None) => match pages::read() {
+        (Some("pages"), Some(slots @ 16..=256), None) => match pages::read() {
             Ok(pages) => of_pages(slots, &pages),
             Err(fault) => {
                 eprintln!("paid: {fault}");
