@@ -84,6 +84,22 @@ size_t fold_half(struct shards *shards, enum halving halving) {
     return gone;
 }
 
+static size_t most_folds(struct shards *shards, size_t slots) {
+    struct teurlaks_totals_reply totals = teurlaks_totals(&shards->core);
+    return totals.pages - (totals.live + slots - 1) / slots;
+}
+
+void compact_if_pays(struct shards *shards, size_t slots, size_t least_percent) {
+    trim_all(shards);
+    size_t most = most_folds(shards, slots);
+    if (shards->stay > most) shards->stay = most;
+    if (most == 0 || (most - shards->stay) * 100 < pages_of(shards) * least_percent) return;
+    struct teurlaks_compact_reply compacted = teurlaks_compact_within(&shards->core, SIZE_MAX);
+    want(compacted.status == TEURLAKS_OK && !compacted.more, "teurlaks_compact_within",
+         compacted.status);
+    shards->stay = most_folds(shards, slots);
+}
+
 size_t compact(struct shards *shards, enum halving halving) {
     size_t before = pages_of(shards);
     trim_all(shards);

@@ -5,10 +5,12 @@
 
 #include "teurlaks.h"
 
-/* A core, and how many shards it has, none of which ended. */
+/* A core, how many shards it has, none of which ended, and how many pages more could have gone, by
+ * their number and that of live keys, when it was last compacted. */
 struct shards {
     struct teurlaks_handle core;
     uint32_t count;
+    size_t stay;
 };
 
 /* Gives back the pages on which nothing is live, and answers how many. */
@@ -35,6 +37,11 @@ enum halving {
 /* One round: half of the pages go to the pool, as many as can be are folded onto the other half,
  * and the shards adopt the rest. Answers how many pages went. */
 size_t fold_half(struct shards *shards, enum halving halving);
+
+/* Compacts as the library does, if at least so many percent of the pages could go, of so many slots
+ * each: those that what is live does not need if the others are full, without as many as stayed the
+ * last time. Else it trims alone. As Core::compact_if_pays of the crate `teurlaks`. */
+void compact_if_pays(struct shards *shards, size_t slots, size_t least_percent);
 
 /* Trims, and makes rounds as long as one gives a sixteenth of the pages back. Answers how many
  * pages went. */

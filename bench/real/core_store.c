@@ -4,6 +4,9 @@
 
 enum { MOST_SHARDS = 64, PAGES_OF_A_SHARD = 1024, GENERATIONS = 1 << 30 };
 
+/* The share that Policy::default of the crate `teurlaks` names. */
+enum { LEAST_PERCENT = 25 };
+
 enum halving core_store_halving = SPARSER_HALF;
 
 static struct shards cores[CLASSES];
@@ -60,7 +63,14 @@ static int get(uint32_t object, void *bytes, uint32_t len) {
 static void compact_cores(void) {
     for (unsigned class = 0; class < CLASSES; class ++) {
         struct teurlaks_totals_reply totals = teurlaks_totals(&cores[class].core);
-        if (is_sparse(totals.live, totals.pages, class)) compact(&cores[class], core_store_halving);
+        if (core_store_halving == SPARSER_HALF) {
+            int always = compacted_below_percent > 100;
+            if (always) cores[class].stay = 0;
+            compact_if_pays(&cores[class], 4096 / bytes_of_class(class),
+                            always ? 0 : LEAST_PERCENT);
+        } else if (is_sparse(totals.live, totals.pages, class)) {
+            compact(&cores[class], core_store_halving);
+        }
     }
 }
 

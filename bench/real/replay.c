@@ -2,16 +2,18 @@
  * 256 bytes, over a store: `core`, `split` or `malloc` (stores.h). Each checkpoint is a number of
  * records, in ascending order. WHEN is
  *
- *   never     nothing is given back compact   at each checkpoint the store gives back what it can
+ *   never     nothing is given back
+ *   compact   at each checkpoint the store gives back what it can
  *   compact-sparse   the same, but only of those pages, by the size of their objects, of whose
- *   slots less than two thirds hold one
+ *             slots less than two thirds hold one; of `core` those of which a quarter could go
  *
  * and of `core` alone
  *
- *   compact-halves, compact-halves-sparse   as these, by halves at random, in place of the sparser
- *   half of each shard rounds    at each checkpoint it is told what folds would give back, in a
- *   process that is forked there, and beside it what the search of Mesh
- *             would, on the same pages; the replay itself goes on with nothing folded
+ *   compact-halves, compact-halves-sparse   as these, of slots less than two thirds, by rounds of
+ *             halves at random, in place of those that the library chooses
+ *   rounds    at each checkpoint it is told what folds would give back, in a process that is forked
+ *             there, and beside it what the search of Mesh would, on the same pages; the replay
+ *             itself goes on with nothing folded
  *   rounds-64, rounds-256   as rounds, of objects of 65 to 256 bytes alone, each cut off at 64 or
  *   16 bytes, so that a page has so many slots
  *             for them, as it has in a `Slab` of Rust for values of more and of fewer than 128
