@@ -39,6 +39,16 @@ impl Occupancy {
             .saturating_sub(self.live.div_ceil(self.slots.max(1)))
     }
 
+    /// How many of the sparsest pages a round retires at most: all of which half may be free, and so
+    /// one of any two that fit each other. With more of them more could go.
+    pub(crate) fn largest_part(self) -> usize {
+        self.most_folds()
+            .saturating_mul(2)
+            .saturating_add(1)
+            .min(self.pages / 2)
+            .max(1)
+    }
+
     /// How many pages a round retires that has several folded onto each that stays, if so many can
     /// be expected to go that halves could not give them; of few pages, if any can.
     pub(crate) fn gathered(self) -> Option<usize> {

@@ -41,6 +41,28 @@ impl Round {
         self.division.is_some()
     }
 
+    /// Whether every second shard retires what it has.
+    pub(crate) fn is_by_shards(self) -> bool {
+        match self.division {
+            Some(division) => division.is_by_shards,
+            None => false,
+        }
+    }
+
+    /// How many groups a shard that is asked retires, if others have as many and so many shards are
+    /// left. Of every second shard, the last one may give an eighth more, so that it is not divided.
+    pub(crate) fn share(self, left: usize) -> usize {
+        if !self.is_by_shards() {
+            return self.wanted().div_ceil(left.max(1));
+        }
+        let more = if self.retired > 0 {
+            self.retired.saturating_add(self.wanted()) / 8
+        } else {
+            0
+        };
+        self.wanted().saturating_add(more)
+    }
+
     /// How many groups are left to be retired.
     pub(crate) fn wanted(self) -> usize {
         match self.division {

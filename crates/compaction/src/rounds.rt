@@ -7,29 +7,38 @@ use crate::occupancy::{MOST_GROUPS, Occupancy};
 /// looks at too few to be worth it, so such a round is retired over several calls.
 const LEAST_ROUND: usize = 64;
 
-/// How many pages the smallest part has into which they are halved.
-const LEAST_PART: usize = 8;
+/// How many of the sparsest pages the first part has.
+const FIRST_PART: usize = 8;
 
-/// How many of the sparsest pages the first looks are at, in turn, and after how many poor ones in
-/// a row there is no more.
-const LOOKS: [usize; 4] = [8, 16, 32, 64];
+/// Parts of at most so many pages are few: they are halved, and no half of all pages is worth it.
+const FEW: usize = 32;
 
-const POOR_LOOKS: u32 = 2;
+/// After how many poor rounds in a row there is no more, and of few pages.
+const POOR_ROUNDS: u32 = 3;
+
+const POOR_OF_FEW: u32 = 4;
+
+/// All pages are divided if one of so many can go.
+const WORTH_HALVES: usize = 8;
+
+/// After that the first part has one of so many pages.
+const PARTS: usize = 64;
 
 /// The rounds of a compaction. The first leaves as few pages in the shards as can be expected to
 /// stay, so that several plans fold the others onto these, if that gives more than halves could.
-/// Else some look at the 8, 16, 32 and 64 sparsest pages, and two in a row that are not worth it
-/// are the last ones: if pages fit each other, then first these. Then come rounds that retire the
-/// sparsest half, quarter, eighth and so on, each once with all of it in the pool and once with
-/// half of it, until none in a row of all of these is worth it.
+/// The others begin with the 8 sparsest pages, once with all of these in the pool and once with
+/// half of them, and go on with twice as many each time: if pages fit others, then first these.
+/// Once they are worth it and much can go, half of all pages is divided from the other half by
+/// shards. Some poor rounds in a row are the last ones.
 #[derive(Clone, Copy)]
 pub(crate) struct Rounds {
     has_gathered: bool,
-    // Whether the looks are over, how many there were, and how many rounds by parts.
-    has_looked: bool,
-    looks: usize,
-    turns: u32,
-    // How many looks, or rounds by parts, in a row were not worth it.
+    has_halved: bool,
+    // How many of the sparsest pages come next, or 0 before the first part, and whether some of
+    // them are kept.
+    part: usize,
+    keeps: bool,
+    // How many rounds in a row were not worth it.
     poor: u32,
 }
 
@@ -38,9 +47,9 @@ impl Rounds {
     pub(crate) fn none() -> Rounds {
         Rounds {
             has_gathered: false,
-            has_looked: false,
-            looks: 0,
-            turns: 0,
+            has_halved: false,
+            part: 0,
+            keeps: false,
             poor: 0,
         }
     }
@@ -56,19 +65,15 @@ impl Rounds {
         if gathered.is_some() {
             return gathered;
         }
-        if self.has_looked {
-            return self.next_part(pages.pages, most);
-        }
-        if self.poor >= POOR_LOOKS {
+        let largest = pages.largest_part();
+        if self.poor >= most_poor(largest) {
             return None;
         }
-        let look = self.next_look(pages.pages);
-        if look.is_some() {
-            return look;
+        let halves = self.next_halves(pages, most);
+        if halves.is_some() {
+            return halves;
         }
-        self.has_looked = true;
-        self.poor = 0;
-        self.next_part(pages.pages, most)
+        Some(self.next_part(largest, most))
     }
 
     // The round that leaves as few pages as can be expected to stay, which is the first one if any.
@@ -85,44 +90,74 @@ impl Rounds {
         }
     }
 
-    // The next look, if one is left. After the first one it is at an eighth of the pages at most.
-    fn next_look(&mut self, pages: usize) -> Option<Division> {
-        if self.looks >= LOOKS.len() {
+    // The round that divides all pages, once the first part was worth it, if much can go.
+    fn next_halves(&mut self, pages: Occupancy, most: usize) -> Option<Division> {
+        let half = pages.pages / 2;
+        let is_worth = self.part > FIRST_PART
+            && self.poor < 2
+            && pages.largest_part() > FEW
+            && pages.most_folds().saturating_mul(WORTH_HALVES) >= pages.pages;
+        if self.has_halved || !is_worth || !is_bounded(half, pages.pages, most) {
             return None;
         }
-        let look = LOOKS[self.looks];
-        if self.looks > 0 && look.saturating_mul(LEAST_PART) > pages {
-            return None;
-        }
-        self.looks += 1;
-        Some(Division::halved(look.min(pages)))
+        self.has_halved = true;
+        self.part = FIRST_PART.max(pages.pages / PARTS);
+        Some(Division::by_shards(half))
     }
 
-    // The next division by a part of the pages, if a part may be worth it.
-    fn next_part(&mut self, pages: usize, most: usize) -> Option<Division> {
-        let parts = (pages / LEAST_PART).max(2).ilog2().max(1);
-        if self.poor >= parts.saturating_mul(2) {
-            return None;
-        }
-        let part = self.turns / 2 % parts;
-        let keeps = self.turns % 2 == 1;
-        self.turns = self.turns.saturating_add(1);
-        let retired = pages.wrapping_shr(part.saturating_add(1)).max(2).min(pages);
-        Some(if keeps {
-            Division::halved(retired.min(most.saturating_mul(2)))
+    // The next part, once with all of it in the pool and once with half of it.
+    fn next_part(&mut self, largest: usize, most: usize) -> Division {
+        let part = if self.part == 0 {
+            FIRST_PART.min(largest)
         } else {
-            Division::whole(retired.min(most))
-        })
+            self.part.min(largest)
+        };
+        let keeps = self.keeps;
+        self.keeps = !keeps && part > 1;
+        self.part = if self.keeps {
+            part
+        } else {
+            part_after(part, largest)
+        };
+        if keeps {
+            Division::halved(part.min(most.saturating_mul(2)))
+        } else {
+            Division::whole(part.min(most))
+        }
     }
 
     /// Notes whether the plans of a round were worth it.
     pub(crate) fn note(&mut self, is_worth: bool) {
         if is_worth {
-            self.has_looked = self.has_looked || self.looks == 0;
             self.poor = 0;
-        } else if self.has_looked || self.looks > 0 {
+        } else if self.part > 0 {
             self.poor = self.poor.saturating_add(1);
         }
+    }
+}
+
+// After how many poor rounds in a row there is no more, if the largest part has so many pages.
+fn most_poor(largest: usize) -> u32 {
+    if largest > FEW {
+        POOR_ROUNDS
+    } else {
+        POOR_OF_FEW
+    }
+}
+
+// The part after this one: of few pages half of it, down to one, and else twice as many, up to the
+// largest.
+fn part_after(part: usize, largest: usize) -> usize {
+    if largest > FEW {
+        if part < largest {
+            part.saturating_mul(2).min(largest)
+        } else {
+            FIRST_PART
+        }
+    } else if part > 1 {
+        part / 2
+    } else {
+        largest
     }
 }
 

@@ -60,6 +60,19 @@ impl Turn {
         self.at(shard)
     }
 
+    /// The turn of the next but one of so many shards, which passes the odd ones over at first.
+    pub(crate) fn next_but_one(self, shards: u32) -> Turn {
+        let next = self.shard.saturating_add(2);
+        let is_even = self.shard % 2 == 0;
+        self.at(if next < shards {
+            next
+        } else if is_even && shards > 1 {
+            1
+        } else {
+            0
+        })
+    }
+
     /// How many shards from this one to the last of so many can do something.
     pub(crate) fn shards_left(self, shards: u32) -> usize {
         let mut count = 0usize;

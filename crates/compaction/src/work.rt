@@ -50,8 +50,7 @@ impl Work {
         if self.turn.due > 0 {
             self.turn.due
         } else {
-            let left = self.turn.shards_left(shards);
-            self.round.wanted().div_ceil(left.max(1))
+            self.round.share(self.turn.shards_left(shards))
         }
     }
 
@@ -70,20 +69,32 @@ impl Work {
     /// Notes how many groups the shard retired of those that it was asked for.
     pub(crate) fn note_retired(&mut self, shards: u32, count: usize, share: usize, most: usize) {
         self.round = self.round.with_retired(count);
+        let before = self.turn;
         self.turn = if count < most {
-            self.turn.without_this().next(shards)
+            self.after(before.without_this(), shards)
         } else if share > most {
-            self.turn.with_due(share - most)
+            before.with_due(share - most)
         } else {
-            self.turn.next(shards)
+            self.after(before, shards)
         };
-        if self.round.wanted() == 0 || self.turn.is_over(shards) {
+        let is_around = self.round.is_by_shards() || self.turn.shard <= before.shard;
+        if (self.round.wanted() == 0 && is_around) || self.turn.is_over(shards) {
             self.turn = Turn::first();
             self.stage = if self.round.to_keep() > 0 {
                 Stage::Keep
             } else {
                 Stage::Mark
             };
+        }
+    }
+
+    // The turn of the shard that is asked after this one. Each is asked once for a group at least,
+    // since the sparsest ones may all be of one shard.
+    fn after(&self, turn: Turn, shards: u32) -> Turn {
+        if self.round.is_by_shards() {
+            turn.next_but_one(shards)
+        } else {
+            turn.next(shards)
         }
     }
 
