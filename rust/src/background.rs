@@ -1,6 +1,7 @@
 //! Compaction on a thread of its own.
 
 use crate::compact::Compacted;
+use crate::occupancy::pays;
 use crate::refused::Refused;
 use std::fmt;
 use std::io;
@@ -44,7 +45,7 @@ impl Default for Policy {
 impl Policy {
     /// Whether a compaction pays of so many pages of which so many may go.
     fn pays(&self, pages: usize, may_go: usize) -> bool {
-        may_go > 0 && may_go.saturating_mul(100) >= pages.saturating_mul(self.least_percent)
+        pays(pages, may_go, self.least_percent)
     }
 }
 

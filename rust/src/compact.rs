@@ -38,6 +38,9 @@ pub(crate) trait Compact {
     /// Compacts until nothing is left to do. If that is refused, no plan of the compaction is open,
     /// and the shards have the groups of the pool as far as they may.
     fn compact_all(&mut self) -> Result<usize, Refused> {
+        if let Some(gone) = self.core().compact_full()? {
+            return Ok(gone);
+        }
         let done = self.compact_some(usize::MAX);
         if done.is_err() {
             self.core().give_up_compaction();

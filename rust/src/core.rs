@@ -87,6 +87,8 @@ pub struct Core {
     emptied: u64,
     // How many pages went in calls of a compaction that were refused, and were not counted yet.
     gone: usize,
+    // How many could have gone, by their counts, after the last compaction.
+    stay: usize,
 }
 
 /// Whose plan is open.
@@ -132,6 +134,7 @@ impl Core {
             ended: 0,
             emptied: 0,
             gone: 0,
+            stay: 0,
         })
     }
 

@@ -26,6 +26,11 @@ impl Occupancy {
         self.pages.saturating_sub(needed)
     }
 
+    /// Whether so many percent of the pages can go, without as many as are known to stay.
+    pub fn pays(self, least_percent: usize, stay: usize) -> bool {
+        pays(self.pages, self.most_folds().saturating_sub(stay), least_percent)
+    }
+
     /// How many values are live on a page in the mean.
     fn mean(self) -> f64 {
         real(self.live) / real(self.pages.max(1))
@@ -91,6 +96,11 @@ impl Occupancy {
             self.pages / 2
         }
     }
+}
+
+/// Whether a compaction pays of so many pages of which so many may go, where so many percent must.
+pub(crate) fn pays(pages: usize, may_go: usize, least_percent: usize) -> bool {
+    may_go > 0 && may_go.saturating_mul(100) >= pages.saturating_mul(least_percent)
 }
 
 // Counts of pages and values are far below 2^52.

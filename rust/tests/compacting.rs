@@ -385,6 +385,73 @@ fn halves_differ() -> Result<(), Refused> {
     Ok(())
 }
 
+/// One that is asked whether it pays touches no group until so much could go, and then compacts;
+/// and what a compaction has left it leaves, until more was freed.
+#[test]
+fn compacts_if_it_pays() -> Result<(), Refused> {
+    let limits = Limits {
+        shards: 1,
+        ..Limits::default()
+    };
+    let mut store = Store::<u64>::with_limits(limits)?;
+    let keys: Vec<_> = (0..25_600)
+        .map(|n| store.insert(n))
+        .collect::<Result<_, _>>()?;
+    let adopts = |store: &mut Store<u64>| store.adopt(0).is_ok();
+    // What was asked moves no group: one that somebody has retired is still in the pool.
+    store.retire(0, 1)?;
+    assert_eq!((store.compact_if_pays(1)?, adopts(&mut store)), (0, true));
+    // All but the lowest 128 slots of each page go, and no page fits another one.
+    let free = |store: &mut Store<u64>, goes: &dyn Fn(Key) -> bool| {
+        keys.iter().filter(|key| goes(**key)).for_each(|key| {
+            store.free(*key);
+        });
+    };
+    free(&mut store, &|key| key.slot() >= 128);
+    store.retire(0, 1)?;
+    assert_eq!((store.compact_if_pays(51)?, adopts(&mut store)), (0, true));
+    store.retire(0, 1)?;
+    assert_eq!((store.compact_if_pays(50)?, adopts(&mut store)), (0, false));
+    store.retire(0, 1)?;
+    assert_eq!((store.compact_if_pays(1)?, adopts(&mut store)), (0, true));
+    // An empty page goes in any case.
+    free(&mut store, &|key| key.serial() == 7);
+    assert_eq!((store.compact_if_pays(101)?, store.pages()), (1, 99));
+    // Once another quarter could go it looks again, and this time pages fit.
+    free(&mut store, &|key| {
+        key.slot() < 128 && key.serial() % 2 == u32::from(key.slot() / 64)
+    });
+    assert_eq!((store.compact_if_pays(26)?, store.pages()), (0, 99));
+    assert!(store.compact_if_pays(24)? >= 48);
+    assert!(keys.iter().zip(0..).all(|(key, n)| {
+        let stays = key.slot() < 128 && key.serial() % 2 != u32::from(key.slot() / 64);
+        store.get(*key) == (stays && key.serial() != 7).then_some(n)
+    }));
+    Ok(())
+}
+
+/// A store that is full is trimmed and asked no more, and what it counts is what went.
+#[test]
+fn full_pages_are_passed_over() -> Result<(), Refused> {
+    let mut core = Core::new(FEW)?;
+    let keys: Vec<_> = (0..3 * 2560)
+        .map(|n| core.insert(n as u32 % 3, n))
+        .collect::<Result<_, _>>()?;
+    let mark = core.mark_some()?;
+    core.close()?;
+    let text = core.certificate()?;
+    for key in keys.iter().filter(|key| key.serial() == 4) {
+        core.free(*key);
+    }
+    // With no mark of its own, so that the certificate is that of the caller.
+    assert_eq!((core.compact()?, core.pages(), mark.owned), (3, 27, 30));
+    assert_eq!((core.certificate()?, core.compact()?), (text, 0));
+    assert_eq!(core.get(keys[0]), Some(0));
+    core.retire(0, 1)?;
+    assert_eq!((core.compact()?, core.adopt(0)), (0, Err(Refused::NothingToAdopt)));
+    Ok(())
+}
+
 /// Each call retires, adopts and folds at most as many groups as its budget says.
 #[test]
 fn budgets_are_kept() -> Result<(), Refused> {

@@ -15,14 +15,15 @@ impl Core {
     /// the pool; as many as can be are folded onto the others, by one plan after another as long as
     /// one folds a sixteenth of its smaller side; and the shards adopt the rest. If several pages
     /// can be expected to fit on each that stays, by the numbers of pages and of live keys, the
-    /// first round leaves that few in the shards. Else rounds look at the 8, 16, 32 and 64 sparsest
-    /// pages alone, and two in a row that fold less than a sixteenth are the last ones. The further
-    /// rounds take the sparsest half, quarter, eighth and so on, each once with all of it in the
-    /// pool and once with half of it, until none in a row of all of these folds a sixteenth.
+    /// first round leaves that few in the shards. The others look at the 8 sparsest pages, at 16, 32
+    /// and so on, each part once with all of it in the pool and once with half of it, up to as many
+    /// as can be half empty. If an eighth of all pages could go, a round after the first ones has
+    /// all that every second shard has in the pool, up to half of the pages. Three rounds in a row
+    /// that fold less than a sixteenth are the last ones, or four if few pages can be half empty.
     ///
-    /// If what is live needs all pages even if these were full, nothing is retired. What can be
-    /// expected takes live keys to stand at slots at random, and all objects to be as small as the
-    /// smallest that the last plan saw.
+    /// If what is live needs all pages even if these were full, nothing is retired, and after the
+    /// trims it only forgets. What can be expected takes live keys to stand at slots at random, and
+    /// all objects to be as small as the smallest that the last plan saw.
     ///
     /// A page that is folded takes no object of its own any more, so each fold uses up one of the
     /// 4,294,967,295 pages that a shard may open in its life.
@@ -48,11 +49,73 @@ impl Core {
     /// # Ok::<(), teurlaks::Refused>(())
     /// ```
     pub fn compact(&mut self) -> Result<usize, Refused> {
+        if let Some(gone) = self.compact_full()? {
+            return Ok(gone);
+        }
         let done = self.compact_within(usize::MAX);
         if done.is_err() {
             self.give_up_compaction();
         }
         done.map(|done| done.pages)
+    }
+
+    /// Gives back the pages on which no key is live, and says how many went, if what is live needs
+    /// all others even if these were full: then there is nothing to fold. A compaction that is under
+    /// way, and groups in the pool, are for others.
+    pub(crate) fn compact_full(&mut self) -> Result<Option<usize>, Refused> {
+        self.no_plan_of_caller()?;
+        if self.plan != Plan::None || !self.pool_is_empty() {
+            return Ok(None);
+        }
+        self.gone += self.trim_all();
+        if self.occupancy().most_folds() > 0 {
+            return Ok(None);
+        }
+        self.forget()?;
+        self.stay = 0;
+        Ok(Some(std::mem::take(&mut self.gone)))
+    }
+
+    /// [Compacts](Core::compact) if at least so many percent of the pages could go, and says how
+    /// many went: so one may ask as often as one likes. If not, it gives back the pages on which no
+    /// key is live, and touches nothing else.
+    ///
+    /// How many could go is known from counts alone: the pages without those that the live keys
+    /// would need if these were full, and without as many as the last compaction has left that
+    /// could have gone by this count. So a store whose pages do not fit each other is compacted
+    /// again only once so much was freed since. If a compaction is under way, it goes on.
+    ///
+    /// # Errors
+    ///
+    /// As of [`Core::compact`].
+    ///
+    /// ```
+    /// # use teurlaks::{Core, Limits};
+    /// let mut core = Core::new(Limits::default())?;
+    /// let keys: Vec<_> = (0..25_600).map(|i| core.insert(0, i)).collect::<Result<_, _>>()?;
+    /// let mut gone = Vec::new();
+    /// for (i, key) in keys.iter().enumerate().filter(|(i, _)| i % 23 != 0) {
+    ///     core.free(*key);
+    ///     if i % 256 == 0 {
+    ///         gone.push(core.compact_if_pays(50)?);
+    ///     }
+    /// }
+    /// assert_eq!(gone[..49], [0; 49]);
+    /// assert!(gone[49..].iter().sum::<usize>() > 40);
+    /// # Ok::<(), teurlaks::Refused>(())
+    /// ```
+    pub fn compact_if_pays(&mut self, least_percent: usize) -> Result<usize, Refused> {
+        if self.plan == Plan::None {
+            let trimmed = self.trim_all();
+            let pages = self.occupancy();
+            // What was filled since may fold once it is sparse again.
+            self.stay = self.stay.min(pages.most_folds());
+            if !pages.pays(least_percent, self.stay) {
+                return Ok(trimmed);
+            }
+            self.gone += trimmed;
+        }
+        self.compact()
     }
 
     /// Takes at most so many steps of a [compaction](Core::compact), at least one, and says how
@@ -176,6 +239,7 @@ impl Core {
         // What no shard may adopt stays in the pool.
         self.adopt_pooled();
         self.give_up_worn();
+        self.stay = self.occupancy().most_folds();
     }
 
     /// Ends a compaction where it is: no plan of it is open, and the shards have the groups of the

@@ -161,6 +161,17 @@ macro_rules! meshing {
             self.core.compact()
         }
 
+        /// Compacts if at least so many percent of the pages could go, as
+        /// [`Core::compact_if_pays`](crate::Core::compact_if_pays).
+        ///
+        /// # Errors
+        ///
+        /// As of [`Core::compact`](crate::Core::compact).
+        pub fn compact_if_pays(&mut self, least_percent: usize) -> Result<usize, crate::Refused> {
+            self.first = 0;
+            self.core.compact_if_pays(least_percent)
+        }
+
         /// Takes at most so many steps of a compaction, as
         /// [`Core::compact_within`](crate::Core::compact_within).
         ///
