@@ -192,8 +192,8 @@ fn bits_of_piece(numbers: &[u32]) -> u64 {
     };
     assert!(numbers.len() == PIECE);
     let first = numbers.as_ptr();
-    // SAFETY: four numbers are read from each of these places on, of 16. Each processor of this kind
-    // has the instructions.
+    // SAFETY: four numbers are read from each of these places on, of 16. Each processor of this
+    // kind has the instructions.
     let zeros = unsafe {
         let are_zero =
             |at| _mm_cmpeq_epi32(_mm_loadu_si128(first.add(at).cast()), _mm_setzero_si128());

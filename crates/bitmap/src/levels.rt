@@ -14,8 +14,8 @@ use crate::parts::{
 use std::alloc::{AllocError, Global};
 use std::marker::Model;
 
-/// A set of numbers below its room, by parts of 256. Above them stand a set of the parts that have a
-/// number, by parts too, and a set of the parts of that which have one (a hierarchical bitmap, as
+/// A set of numbers below its room, by parts of 256. Above them stand a set of the parts that have
+/// a number, by parts too, and a set of the parts of that which have one (a hierarchical bitmap, as
 /// `hibitset` has). So the least is found in three steps.
 #[derive(Drop)]
 pub(crate) struct Levels {

@@ -17,10 +17,10 @@
 //! that groups that fit each other are on different sides. As many as can be of the others are
 //! folded, by several marks if these plan enough, and the shards adopt the rest. How many pages and
 //! keys there are says which part of the pages a round retires (`rounds.rt`). First comes the share
-//! that can be expected to fold. Then come the 8 sparsest pages, twice as many and so on, as long as
-//! these are worth it, and at most as many as can be half empty. If much can go, half of all pages
-//! comes between, from every second shard. A mark is worth another one if it
-//! plans at least one fold for 16 groups of its smaller side.
+//! that can be expected to fold. Then come the 8 sparsest pages, twice as many and so on, as long
+//! as these are worth it, and at most as many as can be half empty. If much can go, half of all
+//! pages comes between, from every second shard. A mark is worth another one if it plans at least
+//! one fold for 16 groups of its smaller side.
 //!
 //! The public facts (`specs/Compacts.antt`): all that a call does to the core are such steps, in
 //! such an order, and they use up the budget, unless one is refused or all is done. Folds and

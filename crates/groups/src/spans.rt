@@ -9,8 +9,8 @@ ghost use Rattle.span.specs.Log.{live_slots, Holds};
 ghost use Rattle.span.specs.SpanLogs.{AreLegal, room_for_logs, span_of_log};
 ghost use Rattle.span.specs.State.{IsSettable};
 ghost use Rattle.groups.specs.Dead.{live_among};
-ghost use Rattle.groups.specs.SpansKept.{IsFullOutside};
-ghost use Rattle.groups.specs.Spans.{HasAllOf, IsFull, IsLowestLeft, IsNextKey, IsVacant, OfSpanAt, all_spans, live_count, set_spans, slots_for, summary_of, union_of, with_free_at, with_guest_at, with_head, with_more_guests, with_put, with_set_at, with_span_at, with_worn};
+ghost use Rattle.groups.specs.SpansKept.{Finds, IsFullOutside};
+ghost use Rattle.groups.specs.Spans.{IsFull, IsNextKey, IsVacant, OfSpanAt, all_spans, live_count, set_spans, slots_for, summary_of, union_of, with_free_at, with_guest_at, with_head, with_more_guests, with_put, with_set_at, with_span_at, with_worn};
 ghost use Rattle.bitmap.specs.declared.bits.TheConstants.{SLOTS};
 
 use crate::live::is_live;
@@ -368,9 +368,7 @@ fn lowest_usable<L: Log>(
 ) -> Option<Vacancy>
     requires { IsFullOutside open_words.old (slots_in head.now.class)
         (with_worn occupied.now head.now) }
-    ensures lowest { MatchOption result
-        (HasAllOf slot_limit head.now.class (with_worn occupied.now head.now)) (λ found.
-        IsLowestLeft slot_limit head.now.class (with_worn occupied.now head.now) found.slot) }
+    ensures lowest { Finds slot_limit head.now occupied.now result }
     ensures last { IfSome result (λ found. IsTrue found.is_last
         → HasWord (set.insert (with_worn occupied.now head.now) found.slot) (found.slot / 64)) }
     ensures shut { IsFullOutside open_words.new (slots_in head.now.class)

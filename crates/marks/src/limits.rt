@@ -43,8 +43,8 @@ impl Model for Limits {
 
 impl Limits {
     /// The numbers, or `None` exactly where one is out of its range. A shard may open as many spans
-    /// as there are serials, and a put may take all slots of a page; [`Limits::with_span_limit`] and
-    /// [`Limits::with_slot_limit`] give other numbers.
+    /// as there are serials, and a put may take all slots of a page; [`Limits::with_span_limit`]
+    /// and [`Limits::with_slot_limit`] give other numbers.
     pub fn new(shards: u32, page_limit: usize, ring_capacity: usize, gens: u32) -> Option<Limits>
         ensures in_range { IsSome result
             ↔ AreWithin (limits_of shards page_limit ring_capacity gens) }

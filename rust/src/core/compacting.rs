@@ -15,11 +15,12 @@ impl Core {
     /// the pool; as many as can be are folded onto the others, by one plan after another as long as
     /// one folds a sixteenth of its smaller side; and the shards adopt the rest. If several pages
     /// can be expected to fit on each that stays, by the numbers of pages and of live keys, the
-    /// first round leaves that few in the shards. The others look at the 8 sparsest pages, at 16, 32
-    /// and so on, each part once with all of it in the pool and once with half of it, up to as many
-    /// as can be half empty. If an eighth of all pages could go, a round after the first ones has
-    /// all that every second shard has in the pool, up to half of the pages. Three rounds in a row
-    /// that fold less than a sixteenth are the last ones, or four if few pages can be half empty.
+    /// first round leaves that few in the shards. The others look at the 8 sparsest pages, at 16,
+    /// 32 and so on, each part once with all of it in the pool and once with half of it, up to as
+    /// many as can be half empty. If an eighth of all pages could go, a round after the first ones
+    /// has all that every second shard has in the pool, up to half of the pages. Three rounds in a
+    /// row that fold less than a sixteenth are the last ones, or four if few pages can be half
+    /// empty.
     ///
     /// If what is live needs all pages even if these were full, nothing is retired, and after the
     /// trims it only forgets. What can be expected takes live keys to stand at slots at random, and
@@ -60,8 +61,8 @@ impl Core {
     }
 
     /// Gives back the pages on which no key is live, and says how many went, if what is live needs
-    /// all others even if these were full: then there is nothing to fold. A compaction that is under
-    /// way, and groups in the pool, are for others.
+    /// all others even if these were full: then there is nothing to fold. A compaction that is
+    /// under way, and groups in the pool, are for others.
     pub(crate) fn compact_full(&mut self) -> Result<Option<usize>, Refused> {
         self.no_plan_of_caller()?;
         if self.plan != Plan::None || !self.pool_is_empty() {

@@ -213,8 +213,8 @@ impl<T> ShortPage<T> {
     ///
     /// # Safety
     ///
-    /// The block of the other page has so many slots, and whoever finds values here looks there from
-    /// now on.
+    /// The block of the other page has so many slots, and whoever finds values here looks there
+    /// from now on.
     pub unsafe fn move_to(&self, to: &mut Page) {
         if self.is_taken() {
             let block = self.page.block();
