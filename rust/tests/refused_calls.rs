@@ -7,7 +7,7 @@ use std::cell::Cell;
 use std::ffi::c_void;
 use std::ptr;
 use teurlaks::arena::Seat;
-use teurlaks::{Arena, Compacted, Core, Key, Limits, Refused, SharedStore, Store};
+use teurlaks::{Arena, Compacted, Core, Key, Limits, Refused, Store};
 
 thread_local! {
     // How many allocations of the library are made before one is refused.
@@ -91,7 +91,8 @@ fn with_refusal<R>(number: usize, call: impl FnOnce() -> R) -> (R, bool) {
 }
 
 /// Makes the call on what is made anew each time, with each of its allocations refused, and has
-/// what comes of that looked at; and says how many were refused.
+/// what comes of that looked at; and says how many were refused. Of some the library can do
+/// without.
 fn each_refused<S, A>(
     make: impl Fn() -> Result<S, Refused>,
     call: impl Fn(&mut S) -> A,
@@ -115,6 +116,8 @@ const TWO_SHARDS: Limits = Limits {
     generations: u32::MAX,
 };
 
+const VALUES: usize = 2000;
+
 /// Whether the number's value stays on a sparse page.
 fn stays(number: usize) -> bool {
     number % 17 == 3
@@ -123,8 +126,8 @@ fn stays(number: usize) -> bool {
 /// A core of two shards with some pages each, one in 17 of whose keys are live.
 fn sparse_core() -> Result<(Core, Vec<Key>), Refused> {
     let mut core = Core::new(TWO_SHARDS)?;
-    let keys: Vec<_> = (0..5000)
-        .map(|number| core.insert(number % 2, number.into()))
+    let keys: Vec<_> = (0..VALUES)
+        .map(|number| core.insert(number as u32 % 2, number as u128))
         .collect::<Result<_, _>>()?;
     for (number, key) in keys.iter().enumerate() {
         assert!(stays(number) || core.free(*key));
@@ -147,15 +150,12 @@ fn meshes_of_a_core() -> Result<(), Refused> {
         },
         |(core, _)| core.mesh(),
         |(mut core, keys), done, was_refused| {
-            assert_eq!(done.is_err(), was_refused);
+            assert!(done.is_ok() || was_refused && done == Err(Refused::OutOfMemory));
             assert_eq!(core.close(), Err(Refused::NoPlan));
             assert!(finds(|key| core.get(key), &keys));
-            if was_refused {
-                assert_eq!(done, Err(Refused::OutOfMemory));
-                let pages = core.pages();
-                assert_eq!(core.mesh()? + core.pages(), pages);
-            }
-            assert!(core.pages() <= 12 && finds(|key| core.get(key), &keys));
+            let pages = core.pages();
+            assert_eq!(core.mesh()? + core.pages(), pages);
+            assert!(core.pages() == 4 && finds(|key| core.get(key), &keys));
             Ok(())
         },
     )?;
@@ -170,7 +170,7 @@ fn compactions_of_a_core() -> Result<(), Refused> {
         sparse_core,
         |(core, _)| core.compact(),
         |(mut core, keys), done, was_refused| {
-            assert_eq!(done.is_err(), was_refused);
+            assert!(done.is_ok() || was_refused && done == Err(Refused::OutOfMemory));
             assert_eq!(
                 (core.close(), core.adopt(0)),
                 (Err(Refused::NoPlan), Err(Refused::NothingToAdopt))
@@ -178,7 +178,7 @@ fn compactions_of_a_core() -> Result<(), Refused> {
             assert!(finds(|key| core.get(key), &keys));
             let pages = core.pages();
             assert_eq!(core.compact()? + core.pages(), pages);
-            assert!(core.pages() < 10 && finds(|key| core.get(key), &keys));
+            assert!(core.pages() < 4 && finds(|key| core.get(key), &keys));
             Ok(())
         },
     )?;
@@ -210,53 +210,11 @@ fn parts_of_compactions() -> Result<(), Refused> {
         |(core, _)| (core.pages(), in_parts(|| core.compact_within(4))),
         |(core, keys), (pages, gone), _| {
             assert_eq!(core.pages() + gone, pages);
-            assert!(gone > 8 && finds(|key| core.get(key), &keys));
+            assert!(gone > 0 && finds(|key| core.get(key), &keys));
             Ok(())
         },
     )?;
-    let shared = each_refused(
-        sparse_shared,
-        |(store, _)| (store.pages(), in_parts(|| store.compact_within(4))),
-        |(store, keys), (pages, gone), _| {
-            assert_eq!(store.pages() + gone, pages);
-            assert!(gone > 8 && finds(|key| store.get(key).map(|value| value[0]), &keys));
-            Ok(())
-        },
-    )?;
-    assert!(core > 5 && shared > 5, "{core} and {shared}");
-    Ok(())
-}
-
-fn sparse_shared() -> Result<(SharedStore<[u128; 2]>, Vec<Key>), Refused> {
-    let store = SharedStore::with_limits(TWO_SHARDS)?;
-    let keys: Vec<_> = (0..2500)
-        .map(|number| store.insert([number; 2]))
-        .collect::<Result<_, _>>()?;
-    store.retain(|_, value| stays(value[0] as usize));
-    Ok((store, keys))
-}
-
-#[test]
-fn compactions_of_a_shared_store() -> Result<(), Refused> {
-    let refusals = each_refused(
-        sparse_shared,
-        |(store, _)| store.compact(),
-        |(store, keys), done, was_refused| {
-            assert_eq!(done.is_err(), was_refused);
-            let pages = store.pages();
-            assert_eq!(store.compact()? + store.pages(), pages);
-            assert!(store.pages() < 10);
-            assert!(finds(|key| store.get(key).map(|value| value[0]), &keys));
-            // Nothing is left in a pool, where it would take no value.
-            let pages = store.pages();
-            for _ in store.len()..pages * 128 {
-                store.insert([0; 2])?;
-            }
-            assert!(store.pages() <= pages + 1);
-            Ok(())
-        },
-    )?;
-    assert!(refusals > 5, "{refusals}");
+    assert!(core > 5, "{core}");
     Ok(())
 }
 
@@ -268,7 +226,8 @@ fn inserts() -> Result<(), Refused> {
         || Ok((Core::new(TWO_SHARDS)?, Vec::with_capacity(1000))),
         |(core, keys)| core.insert_many(0, &words, keys),
         |(core, keys), done, was_refused| {
-            assert_eq!((done.is_err(), core.len()), (was_refused, keys.len()));
+            assert!(done.is_ok() || was_refused && core.len() < 1000);
+            assert_eq!(core.len(), keys.len());
             assert!(core
                 .get_many(&keys)
                 .eq(words[..keys.len()].iter().map(|word| Some(*word))));
@@ -279,10 +238,8 @@ fn inserts() -> Result<(), Refused> {
         Store::new,
         |store| store.insert_with_key(|key| (key, 7_u64)),
         |mut store, done, was_refused| {
-            assert_eq!(
-                (done.is_err(), store.len()),
-                (was_refused, usize::from(!was_refused))
-            );
+            assert!(done.is_ok() || was_refused);
+            assert_eq!(store.len(), usize::from(done.is_ok()));
             let key = store.insert_with_key(|key| (key, 8))?;
             assert_eq!(store.get(key), Some((key, 8)));
             Ok(())
@@ -306,15 +263,12 @@ fn inserts() -> Result<(), Refused> {
         },
         |core| core.insert(0, 7),
         |mut core, done, was_refused| {
-            assert_eq!(
-                (done.is_err(), core.len()),
-                (was_refused, usize::from(!was_refused))
-            );
-            assert!(
-                matches!(done, Ok(_) | Err(Refused::OutOfMemory)),
-                "{done:?}"
-            );
-            assert!(!core.is_ended(0));
+            match done {
+                Ok(key) => assert_eq!(core.get(key), Some(7)),
+                Err(refused) => assert!(was_refused && refused == Refused::OutOfMemory),
+            }
+            let live = usize::from(done.is_ok());
+            assert_eq!((core.len(), core.is_ended(0)), (live, false));
             let key = core.insert(0, 8)?;
             assert_eq!(core.get(key), Some(8));
             Ok(())
@@ -334,7 +288,7 @@ fn seats() -> Result<(), Refused> {
         || Arena::<u64>::with_lanes(TWO_SHARDS, 8, 3),
         Arena::seat,
         |mut arena, seat, was_refused| {
-            assert_eq!(seat.is_err(), was_refused);
+            assert!(seat.is_ok() || was_refused);
             let mut seats: Vec<Seat<u64>> = seat.into_iter().collect();
             while seats.len() < 2 {
                 seats.push(arena.seat()?);
@@ -355,8 +309,8 @@ fn seats() -> Result<(), Refused> {
 fn sparse_arena() -> Result<(Arena<u128>, Vec<Seat<u128>>, Vec<Key>), Refused> {
     let mut arena = Arena::with_lanes(TWO_SHARDS, 8, 3)?;
     let mut seats = vec![arena.seat()?, arena.seat()?];
-    let keys: Vec<_> = (0..5000)
-        .map(|number| seats[number as usize % 2].insert(number))
+    let keys: Vec<_> = (0..VALUES)
+        .map(|number| seats[number % 2].insert(number as u128))
         .collect::<Result<_, _>>()?;
     for (number, key) in keys.iter().enumerate() {
         assert!(stays(number) || seats[0].free(*key));
@@ -369,12 +323,12 @@ fn calls_of_an_arena() -> Result<(), Refused> {
     let mesh = each_refused(
         || {
             let mut made = sparse_arena()?;
-            assert!(made.1[0].retire(9)? > 3);
+            assert_eq!(made.1[0].retire(4)?, 4);
             Ok(made)
         },
         |(arena, ..)| arena.mesh(),
         |(mut arena, seats, keys), done, was_refused| {
-            assert_eq!(done.is_err(), was_refused);
+            assert!(done.is_ok() || was_refused && done == Err(Refused::OutOfMemory));
             assert_eq!(arena.close(), Err(Refused::NoPlan));
             let pages = arena.totals().pages;
             assert_eq!(arena.mesh()? + arena.totals().pages, pages);
@@ -387,9 +341,9 @@ fn calls_of_an_arena() -> Result<(), Refused> {
         sparse_arena,
         |(_, seats, _)| seats[0].end(),
         |(_, mut seats, keys), done, was_refused| {
-            assert_eq!(done.is_err(), was_refused);
+            assert!(done.is_ok() || was_refused);
             let kept = (0..192).try_for_each(|number| seats[0].insert(number).map(drop));
-            assert_eq!(kept.is_ok(), was_refused);
+            assert_eq!(kept.is_ok(), done.is_err());
             assert!(finds(|key| seats[1].get(key), &keys));
             Ok(())
         },
@@ -397,10 +351,10 @@ fn calls_of_an_arena() -> Result<(), Refused> {
     // A refusal is told if no shard has moved a group before it.
     let retire = each_refused(
         sparse_arena,
-        |(_, seats, _)| seats[0].retire(6),
+        |(_, seats, _)| seats[0].retire(5),
         |(mut arena, mut seats, keys), done, was_refused| {
             let gone = done.unwrap_or(0);
-            assert!(if was_refused { gone < 6 } else { gone == 6 });
+            assert!(gone == 5 || was_refused);
             assert_eq!(done.is_err(), gone == 0);
             let pages = arena.totals().pages;
             let adopted = (0..9).map_while(|_| seats[1].adopt().ok()).count();
