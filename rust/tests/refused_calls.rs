@@ -7,7 +7,7 @@ use std::cell::Cell;
 use std::ffi::c_void;
 use std::ptr;
 use teurlaks::arena::Seat;
-use teurlaks::{Arena, Compacted, Core, Key, Limits, Refused, Store};
+use teurlaks::{Arena, Compacted, Core, Key, Limits, Refused, SharedStore, Store};
 
 thread_local! {
     // How many allocations of the library are made before one is refused.
@@ -215,6 +215,39 @@ fn parts_of_compactions() -> Result<(), Refused> {
         },
     )?;
     assert!(core > 5, "{core}");
+    Ok(())
+}
+
+fn sparse_shared() -> Result<(SharedStore<[u128; 2]>, Vec<Key>), Refused> {
+    let store = SharedStore::with_limits(TWO_SHARDS)?;
+    let keys: Vec<_> = (0..VALUES as u128)
+        .map(|number| store.insert([number; 2]))
+        .collect::<Result<_, _>>()?;
+    store.retain(|_, value| stays(value[0] as usize));
+    Ok((store, keys))
+}
+
+#[test]
+fn compactions_of_a_shared_store() -> Result<(), Refused> {
+    let refusals = each_refused(
+        sparse_shared,
+        |(store, _)| store.compact(),
+        |(store, keys), done, was_refused| {
+            assert!(done.is_ok() || was_refused && done == Err(Refused::OutOfMemory));
+            let pages = store.pages();
+            assert_eq!(store.compact()? + store.pages(), pages);
+            assert!(store.pages() < 8);
+            assert!(finds(|key| store.get(key).map(|value| value[0]), &keys));
+            // Nothing is left in a pool, where it would take no value.
+            let pages = store.pages();
+            for _ in store.len()..pages * 128 {
+                store.insert([0; 2])?;
+            }
+            assert!(store.pages() <= pages + 1);
+            Ok(())
+        },
+    )?;
+    assert!(refusals > 5, "{refusals}");
     Ok(())
 }
 
