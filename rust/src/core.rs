@@ -66,7 +66,7 @@ use std::ptr;
 #[repr(C)]
 pub struct Core {
     // SAFETY: only this module has it. It is null until `open`, and then what
-    // `teurlaks_new_with_spans` left there until `drop`. Of a handle without a core the library
+    // `teurlaks_new_with_slots` left there until `drop`. Of a handle without a core the library
     // answers `NO_CORE`, counts nothing, and drops nothing.
     handle: raw::Handle,
     limits: Limits,
@@ -170,11 +170,12 @@ impl Core {
             shards,
             pages,
             spans,
+            slots,
             generations,
         } = self.limits;
         let handle = &mut self.handle;
         // SAFETY: the handle has no core yet. One that is refused stays null.
-        unsafe { raw::teurlaks_new_with_spans(handle, shards, pages, spans, 1, generations) }
+        unsafe { raw::teurlaks_new_with_slots(handle, shards, pages, spans, slots, 1, generations) }
     }
 
     /// The same for a put of so many words, if the shard and the number are in their ranges.
@@ -501,7 +502,7 @@ impl Core {
         Occupancy {
             pages: self.pages(),
             live: self.live,
-            slots: slots_for(usize::from(self.least_words)),
+            slots: (self.limits).slots_of(slots_for(usize::from(self.least_words))),
         }
     }
 

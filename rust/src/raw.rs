@@ -209,11 +209,12 @@ pub struct ArenaTotalsReply {
 }
 
 extern "C" {
-    pub fn teurlaks_new_with_spans(
+    pub fn teurlaks_new_with_slots(
         out: *mut Handle,
         shards: u32,
         page_limit: u32,
         span_limit: u32,
+        slot_limit: u32,
         ring_capacity: u32,
         gens: u32,
     ) -> u32;
@@ -297,19 +298,21 @@ extern "C" {
         text: *mut u8,
         text_len: usize,
     ) -> CertificateReply;
-    pub fn teurlaks_arena_open_with_spans(
+    pub fn teurlaks_arena_open_with_slots(
         out: *mut ShareHandle,
         shards: u32,
         page_limit: u32,
         span_limit: u32,
+        slot_limit: u32,
         ring_capacity: u32,
         gens: u32,
     ) -> u32;
-    pub fn teurlaks_arena_open_recorded_with_spans(
+    pub fn teurlaks_arena_open_recorded_with_slots(
         out: *mut ShareHandle,
         shards: u32,
         page_limit: u32,
         span_limit: u32,
+        slot_limit: u32,
         ring_capacity: u32,
         gens: u32,
     ) -> u32;

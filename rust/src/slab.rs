@@ -150,7 +150,9 @@ impl<T> Slab<T> {
     /// in their life.
     #[must_use]
     pub fn capacity(&self) -> usize {
-        self.core.running_shards() * self.core.limits().pages as usize * values::Values::<T>::SLOTS
+        let limits = self.core.limits();
+        let slots = limits.slots_of(values::Values::<T>::SLOTS);
+        self.core.running_shards() * limits.pages as usize * slots
     }
 
     /// Makes room beside the core for the pages of so many further values. They take memory as they

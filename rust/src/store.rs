@@ -131,7 +131,8 @@ impl<T: Copy> Store<T> {
     /// in their life.
     #[must_use]
     pub fn capacity(&self) -> usize {
-        self.core.running_shards() * self.core.limits().pages as usize * Self::SLOTS
+        let limits = self.core.limits();
+        self.core.running_shards() * limits.pages as usize * limits.slots_of(Self::SLOTS)
     }
 
     /// Keeps a value in the shard that the last such value went to, or where that has no room, in

@@ -338,7 +338,7 @@ impl<T> Values<T> {
             self.room = Some(NonNull::new(room.cast()).ok_or(Refused::OutOfMemory)?);
         }
         self.room_until = if is_short {
-            self.paged.short_slots()
+            core.limits().slots_of(self.paged.short_slots())
         } else {
             usize::MAX
         };
@@ -349,9 +349,10 @@ impl<T> Values<T> {
     /// them are in one group of the first shard, whose puts take the lowest slot that is free. So
     /// the slot of the next one is no higher than the number of live keys.
     fn fits_short(&self, core: &Core, more: usize) -> bool {
+        let most = core.limits().slots_of(Self::MOST_SHORT);
         self.paged.may_be_short()
             && core.fills_in_order()
-            && more <= Self::MOST_SHORT.saturating_sub(core.len())
+            && more <= most.saturating_sub(core.len())
     }
 
     /// Sees to it that the first page is in a short block of at least so many slots.
@@ -382,7 +383,8 @@ impl<T> Values<T> {
             self.lengthen(core.len() + values)?;
             return self.grow_spans(usize::from(self.spans.len() == 0));
         }
-        let pages = values / Self::SLOTS + usize::from(values % Self::SLOTS != 0);
+        let slots = core.limits().slots_of(Self::SLOTS);
+        let pages = values / slots + usize::from(values % slots != 0);
         self.reserve_blocks(pages)?;
         self.grow_spans(pages)
     }

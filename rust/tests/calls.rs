@@ -15,6 +15,7 @@ const ONE_PAGE: Limits = Limits {
     pages: 1,
     generations: 3,
     spans: u32::MAX,
+    slots: 256,
 };
 
 #[test]

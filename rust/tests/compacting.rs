@@ -37,6 +37,7 @@ const FEW: Limits = Limits {
     pages: 400,
     generations: u32::MAX,
     spans: u32::MAX,
+    slots: 256,
 };
 
 impl Compacts for Core {

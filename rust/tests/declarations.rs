@@ -247,7 +247,7 @@ fn exported() -> Declarations {
             &mut declarations,
         );
     }
-    assert_eq!(declarations.functions.len(), 66);
+    assert_eq!(declarations.functions.len(), 69);
     assert_eq!(declarations.structs.len(), 28);
     for name in READING {
         let (params, _) = declarations.functions.get_mut(name).expect("an export");
@@ -280,10 +280,13 @@ const BY_NUMBERS: [&str; 7] = [
 ];
 
 /// What Rust does not declare, since it never asks: it makes each core and arena by the call with a
-/// limit of spans, in a handle without one; and it knows which arena a seat is of, where C compares
+/// limit of slots, in a handle without one; and it knows which arena a seat is of, where C compares
 /// their places.
-const OF_C_ALONE: [&str; 7] = [
+const OF_C_ALONE: [&str; 10] = [
     "teurlaks_new",
+    "teurlaks_new_with_spans",
+    "teurlaks_arena_open_with_spans",
+    "teurlaks_arena_open_recorded_with_spans",
     "teurlaks_arena_open",
     "teurlaks_arena_open_recorded",
     "teurlaks_seat_arena",

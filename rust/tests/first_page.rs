@@ -149,6 +149,7 @@ const TWO: Limits = Limits {
     shards: 2,
     pages: 4,
     spans: 1000,
+    slots: 256,
     generations: 1000,
 };
 

@@ -7,6 +7,7 @@ const LIMITS: Limits = Limits {
     pages: 4,
     generations: 9,
     spans: u32::MAX,
+    slots: 256,
 };
 
 #[test]

@@ -153,7 +153,7 @@ impl<T: Copy + Send + 'static> Arena<T> {
         Occupancy {
             pages: totals.pages,
             live: totals.live,
-            slots: Self::SLOTS,
+            slots: self.limits().slots_of(Self::SLOTS),
         }
     }
 

@@ -55,13 +55,14 @@ impl Numbers {
         let Limits {
             pages,
             spans,
+            slots,
             generations,
             ..
         } = self.limits;
         let open = if self.is_recorded {
-            raw::teurlaks_arena_open_recorded_with_spans
+            raw::teurlaks_arena_open_recorded_with_slots
         } else {
-            raw::teurlaks_arena_open_with_spans
+            raw::teurlaks_arena_open_with_slots
         };
         // SAFETY: the handle has nothing yet.
         let share = Share::new(|out| unsafe {
@@ -70,6 +71,7 @@ impl Numbers {
                 self.shards(),
                 pages,
                 spans,
+                slots,
                 self.ring_keys,
                 generations,
             )

@@ -17,6 +17,10 @@ pub struct Limits {
     /// How many pages a shard may open in its life, 1 to 4,294,967,295. Each insert that finds no
     /// room opens one, and a fold uses one up. Fewer make keys shorter ([`Limits::key_bits`]).
     pub spans: u32,
+    /// How many slots of a page inserts may take, the lowest ones, 1 to 256. A page has 256 of values
+    /// of up to 16 bytes, and fewer of larger ones. The fewer they take, the more pages fit each
+    /// other once values are gone, so a compaction gives more back. Until then there are more pages.
+    pub slots: u32,
     /// How often a slot may be used, at least once. A slot that was used so often is never used
     /// again. A page of such slots makes way for another one once it has no value: when an insert
     /// finds no other room, and at each forgetting and compaction.
@@ -30,6 +34,7 @@ impl Default for Limits {
             shards: 1,
             pages: MOST_PAGES,
             spans: u32::MAX,
+            slots: MOST_SLOTS,
             generations: u32::MAX,
         }
     }
@@ -65,6 +70,7 @@ impl Limits {
             shards: SHARDS,
             pages: MOST_PAGES,
             spans: 1 << 28,
+            slots: MOST_SLOTS,
             generations: (1 << 24) - 1,
         }
     }
@@ -76,11 +82,17 @@ impl Limits {
         KeyBits::for_limits(self.shards, self.spans, self.generations)
     }
 
+    /// How many slots inserts may take of a page that has so many.
+    pub(crate) fn slots_of(self, page: usize) -> usize {
+        page.min(self.slots as usize)
+    }
+
     /// That each number is in its range, as the library has it.
     pub(crate) fn check(self) -> Result<(), Refused> {
         let in_range = (1..=MOST_SHARDS as u32).contains(&self.shards)
             && (1..=MOST_PAGES).contains(&self.pages)
             && self.spans >= 1
+            && (1..=MOST_SLOTS).contains(&self.slots)
             && self.generations >= 1;
         if in_range {
             Ok(())
@@ -95,6 +107,9 @@ pub(crate) const MOST_SHARDS: usize = 64;
 
 /// How many pages a shard may have at most.
 const MOST_PAGES: u32 = 1 << 20;
+
+/// How many slots a page has at most.
+const MOST_SLOTS: u32 = 256;
 
 /// How many shards a slab or a store has where nobody says so: so many that each has few pages,
 /// whose number an adoption goes by, and so few that a compaction soon has asked each, and keys fit

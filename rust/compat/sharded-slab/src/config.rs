@@ -54,6 +54,7 @@ pub(crate) trait Numbers: Config {
             shards: 64,
             pages,
             spans: 1 << Self::SERIAL_BITS,
+            slots: 256,
             generations: (1 << Self::GENERATION_BITS) - 1,
         }
     }

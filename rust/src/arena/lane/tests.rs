@@ -67,8 +67,9 @@ fn who_waits_for_a_call_sleeps() {
 /// The lanes of an arena of two seats, which keep their shards, with its steward.
 fn two_that_keep() -> (Share, AllLanes, Owner, Owner) {
     // SAFETY: the handle has nothing yet.
-    let open =
-        |out| unsafe { raw::teurlaks_arena_open_with_spans(out, 2, 16, u32::MAX, 8, u32::MAX) };
+    let open = |out| unsafe {
+        raw::teurlaks_arena_open_with_slots(out, 2, 16, u32::MAX, 256, 8, u32::MAX)
+    };
     let share = Share::new(open).expect("there is memory");
     let (lanes, mut owners) = AllLanes::new(2);
     for owner in &owners {
