@@ -72,10 +72,12 @@ pub struct Shard<L: Log = Kept> {
     number: u32,
     page_limit: usize,
     span_limit: u32,
-    slot_limit: u16,
     gens: u32,
     opened: u32,
     ended: bool,
+    ended: bool,
+    // Here it takes no room: behind a bool there is some.
+    slot_limit: u16,
     groups: GroupRow<L>,
     rooms: ClassRooms,
     heads: HeadIndexes,
