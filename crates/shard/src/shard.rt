@@ -75,7 +75,6 @@ pub struct Shard<L: Log = Kept> {
     gens: u32,
     opened: u32,
     ended: bool,
-    ended: bool,
     // Here it takes no room: behind a bool there is some.
     slot_limit: u16,
     groups: GroupRow<L>,
