@@ -16,7 +16,8 @@ use std::time::Duration;
 #[derive(Clone, Copy, Debug, PartialEq, Eq, Hash)]
 pub struct Policy {
     /// How long it sleeps between two looks at the numbers of pages and of live keys. Less than a
-    /// millisecond counts as one.
+    /// millisecond counts as one. To count pages takes a walk of them: it does so where enough keys
+    /// were freed since the last time, and at every eighth look.
     pub interval: Duration,
     /// How many steps a part of a compaction has: after each the thread lets others run, and looks
     /// whether it is to end.
@@ -51,8 +52,13 @@ impl Policy {
 
 /// What is compacted in the background.
 pub(crate) trait Compacts: Send + 'static {
-    /// How many pages there are, and how many of them can go at most.
+    /// How many pages there are, and how many of them can go at most. It walks all pages.
     fn pages_and_most_folds(&self) -> (usize, usize);
+
+    /// How many keys are live, if that is known with no such walk.
+    fn live(&self) -> Option<usize> {
+        None
+    }
 
     /// Has others begin what they do for a compaction.
     fn prepare(&self) {}
@@ -129,17 +135,59 @@ impl Background {
 /// would hardly give anything.
 const MOST_WAITS: u32 = 63;
 
+/// How many looks one that has counted the pages stands for.
+const MOST_LOOKS: u32 = 8;
+
+/// What is known of the pages since they were counted, and too few could go.
+struct Seen {
+    // How many keys were live at most since then, and how many of them must be freed before enough
+    // pages can go.
+    live: usize,
+    frees: usize,
+    looks: u32,
+}
+
+impl Seen {
+    /// After a count of so many keys and pages, of which so many can go at most.
+    fn of(policy: Policy, live: Option<usize>, pages: usize, most_folds: usize) -> Option<Seen> {
+        let live = live?;
+        let wanted = pages.saturating_mul(policy.least_percent).div_ceil(100);
+        // Each page that can go takes as many frees as the others have keys.
+        let of_a_page = live / (pages - most_folds).max(1);
+        Some(Seen {
+            live,
+            frees: wanted.saturating_sub(most_folds) * of_a_page,
+            looks: 0,
+        })
+    }
+
+    /// Whether too few pages can go still, where so many keys are live.
+    fn holds(&mut self, live: Option<usize>) -> bool {
+        let Some(live) = live else { return false };
+        self.live = self.live.max(live);
+        self.looks += 1;
+        self.looks < MOST_LOOKS && live + self.frees > self.live
+    }
+}
+
 /// Looks, sleeps and compacts until the guard is dropped.
 fn run(policy: Policy, compacts: &impl Compacts, shared: &Shared) {
     let interval = policy.interval.max(Duration::from_millis(1));
     // For how many intervals the next compaction waits, and how many more pages could go after the
     // last one.
     let (mut pause, mut waits, mut stay) = (0, 0, 0);
+    let mut seen: Option<Seen> = None;
     while !shared.sleep(interval) {
-        let (pages, most_folds) = compacts.pages_and_most_folds();
-        if !policy.pays(pages, most_folds) {
+        let live = compacts.live();
+        if seen.as_mut().is_some_and(|seen| seen.holds(live)) {
             continue;
         }
+        let (pages, most_folds) = compacts.pages_and_most_folds();
+        if !policy.pays(pages, most_folds) {
+            seen = Seen::of(policy, live, pages, most_folds);
+            continue;
+        }
+        seen = None;
         if waits > 0 && !policy.pays(pages, most_folds.saturating_sub(stay)) {
             waits -= 1;
             continue;
@@ -196,5 +244,103 @@ impl fmt::Debug for Background {
         f.debug_struct("Background")
             .field("pages", &self.pages())
             .finish_non_exhaustive()
+    }
+}
+
+#[cfg(test)]
+mod tests {
+    use super::{Background, Compacts, Policy};
+    use crate::compact::Compacted;
+    use crate::refused::Refused;
+    use std::sync::{Arc, Mutex};
+    use std::thread;
+    use std::time::Duration;
+
+    /// Pages that only count: of 16 keys each, and all that can go go, ten a part.
+    #[derive(Default)]
+    struct Counts {
+        pages: usize,
+        live: usize,
+        looks: usize,
+        walks: usize,
+        budgets: Vec<usize>,
+    }
+
+    #[derive(Clone, Default)]
+    struct Counting(Arc<Mutex<Counts>>);
+
+    impl Counting {
+        fn with<R>(&self, call: impl FnOnce(&mut Counts) -> R) -> R {
+            call(&mut self.0.lock().unwrap())
+        }
+
+        fn waits_until(&self, is_so: impl Fn(&Counts) -> bool) {
+            while !self.with(|counts| is_so(counts)) {
+                thread::sleep(Duration::from_millis(1));
+            }
+        }
+    }
+
+    impl Compacts for Counting {
+        fn pages_and_most_folds(&self) -> (usize, usize) {
+            self.with(|counts| {
+                counts.walks += 1;
+                (counts.pages, counts.pages - counts.live.div_ceil(16))
+            })
+        }
+
+        fn live(&self) -> Option<usize> {
+            self.with(|counts| {
+                counts.looks += 1;
+                Some(counts.live)
+            })
+        }
+
+        fn compact_part(&self, budget: usize) -> Result<Compacted, Refused> {
+            self.with(|counts| {
+                counts.budgets.push(budget);
+                let left = counts.live.div_ceil(16);
+                let pages = 10.min(counts.pages - left);
+                counts.pages -= pages;
+                let more = counts.pages > left;
+                Ok(Compacted { pages, more })
+            })
+        }
+
+        fn give_up(&self) {}
+    }
+
+    #[test]
+    fn counts_pages_where_enough_was_freed() {
+        let policy = Policy {
+            interval: Duration::from_millis(1),
+            budget: 7,
+            least_percent: 25,
+        };
+        let counting = Counting::default();
+        counting.with(|counts| (counts.pages, counts.live) = (100, 1600));
+        let background = Background::begin(policy, counting.clone()).unwrap();
+        // What is full is counted at one look of eight.
+        counting.waits_until(|counts| counts.looks >= 80);
+        // 24 of 100 pages could go, and that is too few.
+        counting.with(|counts| {
+            assert!((1..=11).contains(&counts.walks), "{} walks", counts.walks);
+            counts.live = 1600 - 24 * 16;
+            counts.looks = 0;
+        });
+        counting.waits_until(|counts| counts.looks >= 32);
+        counting.with(|counts| {
+            assert!(counts.budgets.is_empty());
+            // It is counted that the keys were more meanwhile.
+            counts.live = 1600;
+        });
+        let looks = counting.with(|counts| counts.looks);
+        counting.waits_until(|counts| counts.looks > looks + 1);
+        counting.with(|counts| counts.live = 1600 - 25 * 16);
+        counting.waits_until(|counts| counts.pages == 75);
+        counting.with(|counts| assert_eq!(counts.budgets, [7; 3]));
+        counting.waits_until(|_| background.pages() == 25);
+        drop(background);
+        assert_eq!(Arc::strong_count(&counting.0), 1);
     }
 }

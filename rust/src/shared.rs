@@ -553,6 +553,10 @@ impl<T: Copy + Send + 'static> Compacts for Arc<SharedStore<T>> {
         SharedStore::pages_and_most_folds(self)
     }
 
+    fn live(&self) -> Option<usize> {
+        Some(self.len())
+    }
+
     fn compact_part(&self, budget: usize) -> Result<Compacted, Refused> {
         self.compact_within(budget)
     }

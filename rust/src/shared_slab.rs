@@ -736,6 +736,10 @@ impl<T: Send + Sync + 'static> Compacts for Arc<SharedSlab<T>> {
             })
     }
 
+    fn live(&self) -> Option<usize> {
+        Some(self.len())
+    }
+
     fn compact_part(&self, budget: usize) -> Result<Compacted, Refused> {
         self.compact_within(budget)
     }
