@@ -386,6 +386,32 @@ fn halves_differ() -> Result<(), Refused> {
     Ok(())
 }
 
+/// Where the sparser half fits the fuller one, and both halves fit better among themselves, a round
+/// that divides the pages by shards leaves fewer.
+#[test]
+fn halves_are_of_shards() -> Result<(), Refused> {
+    const PAGES: usize = 400;
+    // Every second page has 8 objects, and the others 2, those of the shards at other slots.
+    let stays = |shard: usize, page: usize, slot: usize| {
+        slot / 8 == shard && (page % 2 == 1 || slot % 8 / 2 == page / 2 % 2)
+    };
+    let mut core = Core::new(Limits {
+        shards: 2,
+        ..Limits::default()
+    })?;
+    for shard in 0..2 {
+        let keys = (0..PAGES * 16)
+            .map(|place| core.insert_words(shard as u32, &[place as u128; 16]))
+            .collect::<Result<Vec<_>, _>>()?;
+        for (place, key) in keys.iter().enumerate() {
+            assert!(stays(shard, place / 16, place % 16) || core.free(*key));
+        }
+    }
+    core.compact()?;
+    assert!(core.pages() < PAGES * 7 / 8, "{} pages", core.pages());
+    Ok(())
+}
+
 /// One that is asked whether it pays touches no group until so much could go, and then compacts;
 /// and what a compaction has left it leaves, until more was freed.
 #[test]

@@ -106,17 +106,27 @@ impl Core {
     /// # Ok::<(), teurlaks::Refused>(())
     /// ```
     pub fn compact_if_pays(&mut self, least_percent: usize) -> Result<usize, Refused> {
-        if self.plan == Plan::None {
-            let trimmed = self.trim_all();
-            let pages = self.occupancy();
-            // What was filled since may fold once it is sparse again.
-            self.stay = self.stay.min(pages.most_folds());
-            if !pages.pays(least_percent, self.stay) {
-                return Ok(trimmed);
-            }
-            self.gone += trimmed;
+        match self.pass_over(least_percent) {
+            Some(trimmed) => Ok(trimmed),
+            None => self.compact(),
         }
-        self.compact()
+    }
+
+    /// Gives back the pages on which no key is live, and says how many went, if then fewer than so
+    /// many percent of the pages could go. What is under way is for a compaction, and so is a plan.
+    pub(crate) fn pass_over(&mut self, least_percent: usize) -> Option<usize> {
+        if self.plan != Plan::None {
+            return None;
+        }
+        let trimmed = self.trim_all();
+        let pages = self.occupancy();
+        // What was filled since may fold once it is sparse again.
+        self.stay = self.stay.min(pages.most_folds());
+        if !pages.pays(least_percent, self.stay) {
+            return Some(trimmed);
+        }
+        self.gone += trimmed;
+        None
     }
 
     /// Takes at most so many steps of a [compaction](Core::compact), at least one, and says how

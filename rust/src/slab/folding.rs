@@ -113,6 +113,34 @@ impl<T> Slab<T> {
         went
     }
 
+    /// [Compacts](Slab::compact) if at least so many percent of the pages could go, by counts alone
+    /// and without what the last compaction has left, as [`Core::compact_if_pays`]. If not, it gives
+    /// back the pages on which no value is.
+    ///
+    /// # Errors
+    ///
+    /// As of [`Slab::compact`].
+    ///
+    /// ```
+    /// # use teurlaks::Slab;
+    /// let mut slab = Slab::try_from_iter(0..25_600)?;
+    /// slab.retain(|_, i| *i % 3 > 0);
+    /// assert_eq!(slab.compact_if_pays(50)?, 0);
+    /// slab.retain(|_, i| *i % 19 == 0);
+    /// assert!(slab.compact_if_pays(50)? > 80);
+    /// # Ok::<(), teurlaks::Refused>(())
+    /// ```
+    pub fn compact_if_pays(&mut self, least_percent: usize) -> Result<usize, Refused> {
+        self.give_up_vacant();
+        match self.regrouped().pass_over(least_percent) {
+            Some(trimmed) => {
+                self.values.cool();
+                Ok(trimmed)
+            }
+            None => self.compact(),
+        }
+    }
+
     /// Takes at most so many steps of a [compaction](Slab::compact), at least one, and says how
     /// many pages went and whether there is more to do. The next call goes on where this one
     /// stopped. After the last step each call moves at most so many pages of values together,
