@@ -57,7 +57,24 @@ impl Core {
         if done.is_err() {
             self.give_up_compaction();
         }
-        done.map(|done| done.pages)
+        let gone = done?.pages;
+        if gone > 0 {
+            self.gather_small();
+        }
+        Ok(gone)
+    }
+
+    // Brings the pages together that share pages of the system, if inserts take so few slots that
+    // there are such. If memory is refused, the others stay where they are.
+    fn gather_small(&mut self) {
+        if self.limits.slots == Limits::default().slots {
+            return;
+        }
+        for shard in 0..self.limits.shards {
+            if self.gather(shard).is_err() {
+                return;
+            }
+        }
     }
 
     /// Gives back the pages on which no key is live, and says how many went, if what is live needs
