@@ -63,6 +63,31 @@ invariant_of-self g c =
       );
     }
 
+pub returns-clause-takes : goal.returns-clause-takes
+returns-clause-takes g c =
+    let spans = c.into_parts-spans.result.0 in
+    let moved = whole_with spans c.into_parts-spans.result.1.page in
+    let came = c.insert.ensures in
+    let group : PooledState = group_of spans c.page_in_use-page.result.page in
+    let place : IsPlaceFor c.self.inside.groups.groups spans.head.id came.0 = subst (λ (g : PooledState). IsPlaceFor c.self.inside.groups.groups g.head.id came.0) c.new.ensures came.1 in
+    let groups_are : c.insert.new.self.groups ≡ insert c.self.inside.groups.groups came.0 group = ap (λ (s : GroupsState). s.groups) came.2
+    ∙ ap (insert c.self.inside.groups.groups came.0) c.new.ensures in
+    let new : PoolState = record (state_of c.self.inside) {
+      groups = c.insert.new.self.groups;
+      group_room = c.self.inside.group_room - 1;
+      span_room = c.self.inside.span_room - c.len-count.result;
+    } in
+    let takes : TakesIn (state_of c.self.inside) moved new = record {
+      index = came.0;
+      place = place;
+      page = c.page_in_use-page.result.page;
+      emptied = c.page_in_use-page.ensures.emptied;
+      live = c.page_in_use-page.ensures.live;
+      after = rw (groups_are, c.len-count.ensures) refl;
+    } in
+    subst (λ (w : WholeState). TakesIn c.args.self.now w new) (sym c.into_parts-spans.ensures.parts)
+    (subst (λ (s : PoolState). TakesIn s moved new) c.self.view_is takes)
+
 pub returns-clause-sound : goal.returns-clause-sound
 returns-clause-sound g c = (invariant_of-self g c).sound
 
