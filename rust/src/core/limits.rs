@@ -17,9 +17,10 @@ pub struct Limits {
     /// How many pages a shard may open in its life, 1 to 4,294,967,295. Each insert that finds no
     /// room opens one, and a fold uses one up. Fewer make keys shorter ([`Limits::key_bits`]).
     pub spans: u32,
-    /// How many slots of a page inserts may take, the lowest ones, 1 to 256. A page has 256 of values
-    /// of up to 16 bytes, and fewer of larger ones. The fewer they take, the more pages fit each
-    /// other once values are gone, so a compaction gives more back. Until then there are more pages.
+    /// How many slots of a page inserts may take, the lowest ones, 1 to 256. A page has 256 of
+    /// values of up to 16 bytes, and fewer of larger ones. The fewer they take, the more pages fit
+    /// each other once values are gone, so a compaction gives more back. Until then there are more
+    /// pages.
     pub slots: u32,
     /// How often a slot may be used, at least once. A slot that was used so often is never used
     /// again. A page of such slots makes way for another one once it has no value: when an insert

@@ -114,8 +114,8 @@ impl<T> Slab<T> {
     }
 
     /// [Compacts](Slab::compact) if at least so many percent of the pages could go, by counts alone
-    /// and without what the last compaction has left, as [`Core::compact_if_pays`]. If not, it gives
-    /// back the pages on which no value is.
+    /// and without what the last compaction has left, as [`Core::compact_if_pays`]. If not, it
+    /// gives back the pages on which no value is.
     ///
     /// # Errors
     ///
