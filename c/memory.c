@@ -291,10 +291,14 @@ static void little(void) {
     QUIETLY(teurlaks_get(&many, none).status == TEURLAKS_NONE);
     QUIETLY(teurlaks_free(&many, none) == TEURLAKS_NONE);
     QUIETLY(teurlaks_trim(&many, 63).status == TEURLAKS_OK);
+    QUIETLY(teurlaks_gather(&many, 63) == TEURLAKS_OK);
+    QUIETLY(teurlaks_gather(&many, 64) == TEURLAKS_CONFIG);
     QUIETLY(teurlaks_retire(&many, 63, 1).status == TEURLAKS_OK);
     QUIETLY(teurlaks_begin(&many, 63) == TEURLAKS_RUNNING);
     WANT(teurlaks_put(&many, 0, (struct teurlaks_word){1, 2}).status == TEURLAKS_OK);
     WANT(bytes - before <= SMALL + 716);
+    before = bytes;
+    WANT(teurlaks_gather(&many, 0) == TEURLAKS_OK && bytes == before);
     teurlaks_drop(&many);
 }
 

@@ -141,3 +141,24 @@ fn are_1_to_256() {
         );
     }
 }
+
+/// Pages of 1,024 bytes move to lower blocks after a compaction, and when that is asked for.
+#[test]
+fn small_pages_are_gathered() -> Result<(), Refused> {
+    let mut core = Core::new(of_slots(64))?;
+    let keys: Vec<Key> = (0..40_000_u128)
+        .map(|n| core.insert(n as u32 % 2, n))
+        .collect::<Result<_, _>>()?;
+    let is_kept = |n: usize| n % 9 == 0;
+    for (_, &key) in keys.iter().enumerate().filter(|(n, _)| !is_kept(*n)) {
+        assert!(core.free(key));
+    }
+    let pages = core.pages();
+    assert!(core.compact()? > pages / 2);
+    assert_eq!((core.gather(0), core.gather(1)), (Ok(()), Ok(())));
+    assert_eq!(core.gather(2), Err(Refused::Config));
+    for (n, &key) in keys.iter().enumerate() {
+        assert_eq!(core.get(key), is_kept(n).then_some(n as u128));
+    }
+    Ok(())
+}

@@ -1,6 +1,6 @@
 //! Compactions of a core, at once and in parts.
 
-use super::{done, Core, Plan};
+use super::{done, Core, Limits, Plan};
 use crate::compact::{Advanced, Compacted};
 use crate::names::Group;
 use crate::raw;
