@@ -113,6 +113,7 @@ const TWO_SHARDS: Limits = Limits {
     shards: 2,
     pages: 64,
     spans: u32::MAX,
+    slots: 256,
     generations: u32::MAX,
 };
 
