@@ -1,5 +1,5 @@
 -- A core begins sound, and shows the empty map.
-use Rattle.std.proofs.Common.{◌≡◌, ℕ, zero, suc, ◌+◌, ◌<◌, List, [], ◌∷◌, refl, sym, ap, subst, ◌∙◌, arith, Option, None, Some, map, slice_get, append-nil, sum_by}
+use Rattle.std.proofs.Common.{◌≡◌, ℕ, zero, suc, ◌+◌, ◌<◌, List, [], ◌∷◌, refl, false, sym, ap, subst, ◌∙◌, arith, Option, None, Some, map, slice_get, append-nil, sum_by}
 use Rattle.std.specs.List.{range_with_len}
 use Rattle.std.proofs.lemmas.List.FromFn.{length-map-range_with_len}
 use Rattle.std.proofs.lemmas.Option.{none-some}
@@ -10,7 +10,7 @@ use Rattle.shard.specs.Group.{GroupState}
 use Rattle.shard.specs.State.{ShardState}
 use Rattle.groups.proofs.Logged.{same_plain_map}
 use Rattle.pool.specs.State.{PoolState, new_pool}
-use Rattle.pool.proofs.Started.{IsSound-new}
+use Rattle.pool.proofs.Started.{IsSound-none}
 use Rattle.arena_core.specs.Made.{all_shards, new_shard_of}
 use Rattle.arena_core.specs.Rings.{RingState}
 use Rattle.arena_core.specs.Sound.{HasSoundGroups, IsSound, IsSoundAt}
@@ -52,7 +52,7 @@ HasSoundGroups-new_core limits within = record {
       let same : 0 + number ≡ number = omega arith in
       subst (IsSoundAt limits number) (ap (new_shard limits.page_limit limits.span_limit limits.slot_limit limits.gens) (sym same) ∙ at.1)
       (record { number_is = refl; page_limit_is = refl; span_limit_is = refl; slot_limit_is = refl; gens_is = refl; sound = IsSound-new_shard limits number within });
-  pool = IsSound-new;
+  pool = IsSound-none false;
   gens = strays-each limits.gens (all_spans (new_core limits)) (sum_all-new (strays limits.gens) limits);
   once = λ id.
       sum_all-new (named id) limits
