@@ -79,6 +79,8 @@ pub struct Core {
     // Whether groups may be in the pool: ends and retirements leave some there.
     pool: bool,
     order: Order,
+    // How many pages could have gone, by their counts, after the last compaction: fewer than 2^26.
+    stay: u32,
     // How many keys are live: a put makes one live, and a free takes one away, as each tells.
     live: usize,
     // A bit for each shard that has ended.
@@ -87,8 +89,6 @@ pub struct Core {
     emptied: u64,
     // How many pages went in calls of a compaction that were refused, and were not counted yet.
     gone: usize,
-    // How many could have gone, by their counts, after the last compaction.
-    stay: usize,
 }
 
 /// Whose plan is open.

@@ -138,8 +138,8 @@ impl Core {
         let trimmed = self.trim_all();
         let pages = self.occupancy();
         // What was filled since may fold once it is sparse again.
-        self.stay = self.stay.min(pages.most_folds());
-        if !pages.pays(least_percent, self.stay) {
+        self.stay = self.stay.min(pages.most_folds() as u32);
+        if !pages.pays(least_percent, self.stay as usize) {
             return Some(trimmed);
         }
         self.gone += trimmed;
@@ -267,7 +267,7 @@ impl Core {
         // What no shard may adopt stays in the pool.
         self.adopt_pooled();
         self.give_up_worn();
-        self.stay = self.occupancy().most_folds();
+        self.stay = self.occupancy().most_folds() as u32;
     }
 
     /// Ends a compaction where it is: no plan of it is open, and the shards have the groups of the
