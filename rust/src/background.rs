@@ -263,6 +263,8 @@ mod tests {
         live: usize,
         looks: usize,
         walks: usize,
+        // At which look it walked first where much could go.
+        walked_at: usize,
         budgets: Vec<usize>,
     }
 
@@ -285,6 +287,9 @@ mod tests {
         fn pages_and_most_folds(&self) -> (usize, usize) {
             self.with(|counts| {
                 counts.walks += 1;
+                if counts.pages == 100 && counts.live == 400 {
+                    counts.walked_at = counts.looks;
+                }
                 (counts.pages, counts.pages - counts.live.div_ceil(16))
             })
         }
@@ -340,6 +345,21 @@ mod tests {
         counting.waits_until(|counts| counts.pages == 75);
         counting.with(|counts| assert_eq!(counts.budgets, [7; 3]));
         counting.waits_until(|_| background.pages() == 25);
+        // What was put since it last counted counts too.
+        counting.with(|counts| (counts.pages, counts.live) = (20, 320));
+        let walks = counting.with(|counts| counts.walks);
+        counting.waits_until(|counts| counts.walks > walks + 1);
+        let looks = counting.with(|counts| {
+            (counts.pages, counts.live) = (100, 1600);
+            counts.looks
+        });
+        counting.waits_until(|counts| counts.looks > looks + 1);
+        let looks = counting.with(|counts| {
+            counts.live = 400;
+            counts.looks
+        });
+        counting.waits_until(|counts| counts.pages == 25);
+        counting.with(|counts| assert!(counts.walked_at <= looks + 3));
         drop(background);
         assert_eq!(Arc::strong_count(&counting.0), 1);
     }

@@ -457,7 +457,7 @@ fn compacts_if_it_pays() -> Result<(), Refused> {
     Ok(())
 }
 
-/// A store that is full is trimmed and asked no more, and what it counts is what went.
+/// A store that is full is trimmed, and what it counts is what went.
 #[test]
 fn full_pages_are_passed_over() -> Result<(), Refused> {
     let mut core = Core::new(FEW)?;
@@ -470,7 +470,7 @@ fn full_pages_are_passed_over() -> Result<(), Refused> {
     for key in keys.iter().filter(|key| key.serial() == 4) {
         core.free(*key);
     }
-    // With no mark of its own, so that the certificate is that of the caller.
+    // The certificate stays that of the caller.
     assert_eq!((core.compact()?, core.pages(), mark.owned), (3, 27, 30));
     assert_eq!((core.certificate()?, core.compact()?), (text, 0));
     assert_eq!(core.get(keys[0]), Some(0));

@@ -39,8 +39,8 @@ impl Occupancy {
             .saturating_sub(self.live.div_ceil(self.slots.max(1)))
     }
 
-    /// How many of the sparsest pages a round retires at most: all of which half may be free, and
-    /// so one of any two that fit each other. With more of them more could go.
+    /// How many of the sparsest pages a round retires at most: all that can be half empty, of which
+    /// one is among any two that fit each other. If there were more, more pages could go.
     pub(crate) fn largest_part(self) -> usize {
         self.most_folds()
             .saturating_mul(2)

@@ -50,8 +50,7 @@ impl Round {
     }
 
     /// How many groups a shard that is asked retires, if others have as many and so many shards are
-    /// left. Of every second shard, the last one may give an eighth more, so that it is not
-    /// divided.
+    /// left. If every second shard does, the last one may give an eighth more, and so all it has.
     pub(crate) fn share(self, left: usize) -> usize {
         if !self.is_by_shards() {
             return self.wanted().div_ceil(left.max(1));

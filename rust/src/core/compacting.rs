@@ -78,8 +78,8 @@ impl Core {
     }
 
     /// Gives back the pages on which no key is live, and says how many went, if what is live needs
-    /// all others even if these were full: then there is nothing to fold. A compaction that is
-    /// under way, and groups in the pool, are for others.
+    /// all others even if these were full: then there is nothing to fold. It leaves a compaction
+    /// that is under way, and groups in the pool, to others.
     pub(crate) fn compact_full(&mut self) -> Result<Option<usize>, Refused> {
         self.no_plan_of_caller()?;
         if self.plan != Plan::None || !self.pool_is_empty() {

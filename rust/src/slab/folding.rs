@@ -114,7 +114,7 @@ impl<T> Slab<T> {
     }
 
     /// [Compacts](Slab::compact) if at least so many percent of the pages could go, by counts alone
-    /// and without what the last compaction has left, as [`Core::compact_if_pays`]. If not, it
+    /// and without what the last compaction has left, as [`Core::compact_if_pays`] does. If not, it
     /// gives back the pages on which no value is.
     ///
     /// # Errors
