@@ -28,7 +28,11 @@ impl Occupancy {
 
     /// Whether so many percent of the pages can go, without as many as are known to stay.
     pub fn pays(self, least_percent: usize, stay: usize) -> bool {
-        pays(self.pages, self.most_folds().saturating_sub(stay), least_percent)
+        pays(
+            self.pages,
+            self.most_folds().saturating_sub(stay),
+            least_percent,
+        )
     }
 
     /// How many values are live on a page in the mean.

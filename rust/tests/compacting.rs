@@ -475,7 +475,10 @@ fn full_pages_are_passed_over() -> Result<(), Refused> {
     assert_eq!((core.certificate()?, core.compact()?), (text, 0));
     assert_eq!(core.get(keys[0]), Some(0));
     core.retire(0, 1)?;
-    assert_eq!((core.compact()?, core.adopt(0)), (0, Err(Refused::NothingToAdopt)));
+    assert_eq!(
+        (core.compact()?, core.adopt(0)),
+        (0, Err(Refused::NothingToAdopt))
+    );
     Ok(())
 }
 
