@@ -204,7 +204,13 @@ impl<L: Log> Spans<L> {
         let key = self.head.put_at(slot, words)?;
         self.occupied.insert(slot);
         let word = usize::from(slot / 64);
-        let is_full = shut(&mut self.open_words, word, is_last, self.head.class(), slot_limit);
+        let is_full = shut(
+            &mut self.open_words,
+            word,
+            is_last,
+            self.head.class(),
+            slot_limit,
+        );
         Ok(Placed { key, is_full })
     }
 

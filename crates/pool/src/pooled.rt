@@ -191,13 +191,7 @@ impl<L: Log> Pooled<L> {
 
     /// Frees the slot in the span at the place, where it is live there at the generation, and gives
     /// the page up where it was the last that was live.
-    pub(crate) fn free(
-        &mut self,
-        alloc: Global,
-        place: usize,
-        slot: u8,
-        generation: u32,
-    ) -> bool
+    pub(crate) fn free(&mut self, alloc: Global, place: usize, slot: u8, generation: u32) -> bool
         requires { place < length (spans_of self.old) }
         ensures found { (span : SpanState) → slice_get (spans_of self.old) place ≡ Some span
             → (IsTrue result ↔ Holds span.log slot generation) }
