@@ -71,7 +71,7 @@ use crate::core::{ends_turn, Limits};
 use crate::names::Key;
 use crate::refused::{InsertError, Refused};
 use crate::shared::homes::{Home, Homes};
-use crate::shared::lock::{Held, Lock};
+use crate::shared::lock::Lock;
 use crate::shared::turns::Turns;
 use guards::Pinned;
 use hints::Hints;
@@ -165,9 +165,6 @@ pub struct SharedSlab<T> {
 /// since processors fetch these in pairs. No code of a user runs under its lock.
 #[repr(align(128))]
 struct Shard<T>(Lock<Option<Box<Table<T>>>>);
-
-/// The table of a shard, for the thread that has its lock.
-type HeldTable<'l, T> = Held<'l, Option<Box<Table<T>>>>;
 
 impl<T> Deref for Shard<T> {
     type Target = Lock<Option<Box<Table<T>>>>;
@@ -472,35 +469,8 @@ impl<T> SharedSlab<T> {
         self.remove_and(key, Claim::Drop)
     }
 
-    #[inline]
     fn remove_and(&self, key: Key, then: Claim) -> bool {
-        let Some(shard) = self.shards.get(key.shard() as usize) else {
-            return false;
-        };
-        let mut held = shard.lock();
-        let Some(table) = held.as_mut() else {
-            return false;
-        };
-        let inner = key.with_shard(0);
-        let Some((page, emptied)) = table.close_unpinned(inner) else {
-            return self.remove_pinned(held, key, then);
-        };
-        // SAFETY: the slot was closed here with its value, and has no name any more.
-        let value = unsafe { page.take(slot_of(key)) };
-        table.free(inner, emptied);
-        drop(held);
-        self.let_go_of_value(key.shard(), value, then);
-        true
-    }
-
-    /// The same of a value that is pinned, or not there.
-    #[cold]
-    #[inline(never)]
-    fn remove_pinned(&self, mut held: HeldTable<'_, T>, key: Key, then: Claim) -> bool {
-        let inner = key.with_shard(0);
-        let removed = held.as_mut().map(|table| table.remove_pinned(inner, then));
-        drop(held);
-        match removed {
+        match self.with(key, |table, key| table.remove(key, then)) {
             None | Some(Removed::Nothing) => false,
             Some(Removed::Pinned(_)) => true,
             Some(Removed::Value(value)) => {

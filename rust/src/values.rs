@@ -281,7 +281,7 @@ impl<T> Values<T> {
 
     /// The same, whatever there is room for.
     #[cold]
-    pub fn insert_key_again(core: &mut Core, put: PutReply, shard: u32) -> Result<Key, Refused> {
+    fn insert_key_again(core: &mut Core, put: PutReply, shard: u32) -> Result<Key, Refused> {
         was_put(core.put_zeros_again(put, shard, Self::WORDS))
     }
 

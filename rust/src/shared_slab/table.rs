@@ -8,7 +8,6 @@ use crate::blocks::{make_room, Blocks};
 use crate::compact::{Compact, Compacted};
 use crate::core::{Core, Limits};
 use crate::names::{Group, Key, Span};
-use crate::raw::PutReply;
 use crate::refused::Refused;
 use crate::spans::{Home, Spans};
 use crate::values::{Block, Values};
@@ -53,11 +52,11 @@ struct Sheet<T> {
     head: Span,
 }
 
-/// What a removal did of a value that may be pinned.
+/// What a removal did.
 pub(super) enum Removed<T> {
     /// The key has no value, or that was removed before.
     Nothing,
-    /// Its value, which nobody has a pin of any more.
+    /// Its value, which nobody had a pin of.
     Value(Owned<T>),
     /// The value stays for as long as it is pinned, at this slot.
     Pinned(Page<T>),
@@ -89,33 +88,9 @@ impl<T> Table<T> {
     #[inline]
     pub fn insert_vacant(&mut self) -> Result<(Key, Page<T>), Refused> {
         if !self.ready {
-            return self.insert_again(None);
+            self.make_ready()?;
         }
-        match Values::<T>::insert_key_plainly(&mut self.core, 0) {
-            Ok(key) => Ok((key, self.name_slot(key))),
-            Err(put) => self.insert_again(Some(put)),
-        }
-    }
-
-    /// The same without room, or after that answer to the call for a key.
-    // All that an insert seldom does is one call, which leaves a key in registers where it is not
-    // made.
-    #[cold]
-    #[inline(never)]
-    fn insert_again(&mut self, put: Option<PutReply>) -> Result<(Key, Page<T>), Refused> {
-        let key = match put {
-            Some(put) => Values::<T>::insert_key_again(&mut self.core, put, 0)?,
-            None => {
-                self.make_ready()?;
-                Values::<T>::insert_key(&mut self.core, 0)?
-            }
-        };
-        Ok((key, self.name_slot(key)))
-    }
-
-    /// Names the slot of a key that has just been put, and says on which page that is.
-    #[inline]
-    fn name_slot(&mut self, key: Key) -> Page<T> {
+        let key = Values::<T>::insert_key(&mut self.core, 0)?;
         let home = match self.spans.find_mut(key.span()) {
             Some(home) => home,
             None => self.open_page(key),
@@ -127,10 +102,11 @@ impl<T> Table<T> {
             self.pages[number].spans += 1;
         }
         page.slot(slot_of(key)).set_name(name_of(key));
-        page
+        Ok((key, page))
     }
 
     /// Makes room for one value, wherever it comes to.
+    #[cold]
     fn make_ready(&mut self) -> Result<(), Refused> {
         self.blocks.reserve()?;
         make_room(&mut self.pages, self.blocks.len())?;
@@ -200,56 +176,46 @@ impl<T> Table<T> {
         self.hints().set(key.serial(), page);
     }
 
-    /// Removes the value of the key, which `close_unpinned` did not find, or which was pinned.
-    #[cold]
-    #[inline(never)]
-    pub fn remove_pinned(&mut self, key: Key, then: Claim) -> Removed<T> {
-        self.mark_removed(key, |slot| {
+    /// Removes the value of the key, or marks it as removed if it is pinned.
+    pub fn remove(&mut self, key: Key, then: Claim) -> Removed<T> {
+        self.remove_or(key, |slot| {
             slot.remove(then);
             slot.claim().is_some()
         })
     }
 
-    /// Removes the value of the key for this thread, which waits for it if it is pinned.
+    /// As `remove`, for a thread that waits for a pinned value.
     pub fn remove_awaited(&mut self, key: Key) -> Removed<T> {
-        if let Some((page, emptied)) = self.close_unpinned(key) {
-            // SAFETY: the slot was closed here with its value, and has no name any more.
-            let value = unsafe { page.take(slot_of(key)) };
-            self.free(key, emptied);
-            return Removed::Value(value);
-        }
-        self.mark_removed(key, |slot| {
+        self.remove_or(key, |slot| {
             slot.remove_awaited();
             false
         })
     }
 
-    /// Closes the slot of the key, if its value is there and nobody has a pin of it. The slot loses
-    /// its name, and the value is to be taken from the page before `free` is called with what else
-    /// this says.
+    /// Removes the value of the key. If it is pinned the mark comes in place of that, which says
+    /// whether the slot is claimed, and closed, all the same.
     #[inline]
-    pub fn close_unpinned(&mut self, key: Key) -> Option<(Page<T>, Option<u32>)> {
-        let home = self.spans.find_mut(key.span())?;
-        let page = page_if_named(home, key)?;
-        if !page.slot(slot_of(key)).close() {
-            return None;
-        }
-        Some((page, take_name::<T>(home, key)))
-    }
-
-    /// Marks the value of the key as removed, if it is there. The mark says whether the slot is
-    /// claimed, and so closed, since nobody has a pin of it any more.
-    fn mark_removed(&mut self, key: Key, mark: impl FnOnce(&Slot) -> bool) -> Removed<T> {
-        let Some(page) = self.find_live(key) else {
+    fn remove_or(&mut self, key: Key, mark: impl FnOnce(&Slot) -> bool) -> Removed<T> {
+        let Some(home) = self.spans.find_mut(key.span()) else {
             return Removed::Nothing;
         };
-        if !mark(page.slot(slot_of(key))) {
-            self.removed += 1;
-            return Removed::Pinned(page);
+        let Some(page) = page_if_named(home, key) else {
+            return Removed::Nothing;
+        };
+        let slot = page.slot(slot_of(key));
+        if !slot.close() {
+            if !slot.is_live() {
+                return Removed::Nothing;
+            }
+            if !mark(slot) {
+                self.removed += 1;
+                return Removed::Pinned(page);
+            }
         }
-        // SAFETY: the slot was claimed with its value, and loses its name.
+        // SAFETY: the slot was closed here with its value, and loses its name.
         let value = unsafe { page.take(slot_of(key)) };
-        self.vacate(key);
+        let emptied = take_name::<T>(home, key);
+        self.free(key, emptied);
         Removed::Value(value)
     }
 
@@ -272,7 +238,7 @@ impl<T> Table<T> {
     /// Frees a key whose slot has lost its name, and forgets its span if that has no value any more
     /// on the page of this number.
     #[inline]
-    pub fn free(&mut self, key: Key, emptied: Option<u32>) {
+    fn free(&mut self, key: Key, emptied: Option<u32>) {
         self.core.free_live(key);
         if let Some(number) = emptied {
             self.forget_span(key.span(), number);
