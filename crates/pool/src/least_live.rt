@@ -28,6 +28,9 @@ pub(crate) fn note_bytes<L: Log>(least: &mut Vec<u8>, groups: &[Pooled<L>])
     }
 }
 
+// A list of few bytes is not worth a call to the allocator.
+const FEW: usize = 16;
+
 /// Gives memory back if a quarter of the room would do for the bytes and for so many more. Twice as
 /// much stays.
 pub(crate) fn give_back_bytes(least: &mut Vec<u8>, room: usize)
@@ -36,7 +39,7 @@ pub(crate) fn give_back_bytes(least: &mut Vec<u8>, room: usize)
     ensures room { length least.new.items + room ≤ vec_capacity least.new }
 {
     let wanted = least.len() + room;
-    if wanted < least.capacity() / 4 {
+    if wanted + FEW < least.capacity() / 4 {
         least.shrink_to(2 * wanted);
     }
 }
