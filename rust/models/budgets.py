@@ -62,13 +62,12 @@ SOURCES = {
             "self.lock_pool()",
             "compact_pieces(",
             "if done.is_err()",
-            "is_under_way = false",
-            "pool.pages = 0",
-            "piece(Store::give_up_compaction)",
+            "self.give_up_in(&mut pool)",
         ],
         "pub fn compact_within(": ["compact_pieces(&mut self.lock_pool(), left)"],
-        "pub fn give_up(": [
-            "self.lock_pool()",
+        "pub fn give_up(": ["self.give_up_in(&mut self.lock_pool())"],
+        "fn give_up_in(": [
+            "pool.pages = 0",
             "take(&mut pool.is_under_way)",
             "piece(Store::give_up_compaction)",
         ],
@@ -109,7 +108,7 @@ SOURCES = {
 }
 
 # How often these stand in shard.rs: nothing else changes what is known of a compaction.
-CHANGES = {"is_under_way = ": 2, "pool.pages": 3, "lock_pool()": 4, "take(&mut pool.": 2}
+CHANGES = {"is_under_way = ": 1, "pool.pages": 3, "lock_pool()": 4, "take(&mut pool.": 2}
 
 FREE = -1
 SHARDS = 2

@@ -37,7 +37,8 @@ def stands_as_modelled(folder, sources, counted, changes):
     for name, functions in sources.items():
         source = (folder / name).read_text()
         wrong += [f"{name}: {head}" for head in missing_in(source, functions)]
-    source = on_one_line((folder / counted).read_text())
+    # What tests do is no step of the code.
+    source = on_one_line((folder / counted).read_text().split("#[cfg(test)]")[0])
     for words, count in changes.items():
         if source.count(on_one_line(words)) != count:
             wrong.append(f"{counted}: {words}")
