@@ -241,7 +241,7 @@ TEURLAKS_INLINE uint32_t teurlaks_tested_compaction_give_up(struct teurlaks_hand
 }
 
 TEURLAKS_INLINE uint32_t teurlaks_tested_gather(struct teurlaks_handle *handle, uint32_t shard) {
-    return handle ? teurlaks_gather(handle, shard) : TEURLAKS_NO_CORE;
+    return handle ? teurlaks_gather(handle, shard) : (uint32_t)TEURLAKS_NO_CORE;
 }
 
 TEURLAKS_INLINE struct teurlaks_adopt_reply teurlaks_tested_adopt(struct teurlaks_handle *handle,

@@ -151,7 +151,7 @@ impl Seen {
     /// After a count of so many keys and pages, of which so many can go at most.
     fn of(policy: Policy, live: Option<usize>, pages: usize, most_folds: usize) -> Option<Seen> {
         let live = live?;
-        let wanted = pages.saturating_mul(policy.least_percent).div_ceil(100);
+        let wanted = pages.saturating_mul(policy.least_percent).saturating_add(99) / 100;
         // Each page that can go takes as many frees as the others have keys.
         let of_a_page = live / (pages - most_folds).max(1);
         Some(Seen {
@@ -290,7 +290,7 @@ mod tests {
                 if counts.pages == 100 && counts.live == 400 {
                     counts.walked_at = counts.looks;
                 }
-                (counts.pages, counts.pages - counts.live.div_ceil(16))
+                (counts.pages, counts.pages - (counts.live + 15) / 16)
             })
         }
 
@@ -304,7 +304,7 @@ mod tests {
         fn compact_part(&self, budget: usize) -> Result<Compacted, Refused> {
             self.with(|counts| {
                 counts.budgets.push(budget);
-                let left = counts.live.div_ceil(16);
+                let left = (counts.live + 15) / 16;
                 let pages = 10.min(counts.pages - left);
                 counts.pages -= pages;
                 let more = counts.pages > left;
