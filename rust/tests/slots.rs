@@ -26,7 +26,7 @@ fn churn<V: PartialEq + std::fmt::Debug>(
     let mut random = 7_u64;
     for number in 0..600 {
         let key = insert(number)?;
-        assert!(u32::from(key.slot()) < slots);
+        assert!(key.slot() < slots);
         assert_eq!(map.insert(key, number), None);
         keys.push(key);
         random = random
