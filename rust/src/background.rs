@@ -151,7 +151,10 @@ impl Seen {
     /// After a count of so many keys and pages, of which so many can go at most.
     fn of(policy: Policy, live: Option<usize>, pages: usize, most_folds: usize) -> Option<Seen> {
         let live = live?;
-        let wanted = pages.saturating_mul(policy.least_percent).saturating_add(99) / 100;
+        let wanted = pages
+            .saturating_mul(policy.least_percent)
+            .saturating_add(99)
+            / 100;
         // Each page that can go takes as many frees as the others have keys.
         let of_a_page = live / (pages - most_folds).max(1);
         Some(Seen {

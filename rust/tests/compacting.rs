@@ -446,12 +446,12 @@ fn compacts_if_it_pays() -> Result<(), Refused> {
     assert_eq!((store.compact_if_pays(101)?, store.pages()), (1, 99));
     // Once another quarter could go it looks again, and this time pages fit.
     free(&mut store, &|key| {
-        key.slot() < 128 && key.serial() % 2 == u32::from(key.slot() / 64)
+        key.slot() < 128 && key.serial() % 2 == key.slot() / 64
     });
     assert_eq!((store.compact_if_pays(26)?, store.pages()), (0, 99));
     assert!(store.compact_if_pays(24)? >= 48);
     assert!(keys.iter().zip(0..).all(|(key, n)| {
-        let stays = key.slot() < 128 && key.serial() % 2 != u32::from(key.slot() / 64);
+        let stays = key.slot() < 128 && key.serial() % 2 != key.slot() / 64;
         store.get(*key) == (stays && key.serial() != 7).then_some(n)
     }));
     Ok(())

@@ -158,17 +158,13 @@ impl<T> Paged<T> {
     ///
     /// If none is free.
     pub fn take(&mut self) -> (u32, &mut Page) {
-        match &mut self.short {
-            Some(short) => {
-                let page = short.page_mut();
-                assert!(page.head.is_none(), "a block was reserved");
-                (0, page)
-            }
-            None => {
-                let number = self.full.take::<T>();
-                (number, &mut self.full.pages[number as usize])
-            }
+        if let Some(short) = &mut self.short {
+            let page = short.page_mut();
+            assert!(page.head.is_none(), "a block was reserved");
+            return (0, page);
         }
+        let number = self.full.take::<T>();
+        (number, &mut self.full.pages[number as usize])
     }
 
     /// Frees a page on which no value is. Takes no memory.
