@@ -339,8 +339,10 @@ fn seats() -> Result<(), Refused> {
     Ok(())
 }
 
+type Seated = (Arena<u128>, Vec<Seat<u128>>, Vec<Key>);
+
 /// Two seats of three shards each, with sparse pages.
-fn sparse_arena() -> Result<(Arena<u128>, Vec<Seat<u128>>, Vec<Key>), Refused> {
+fn sparse_arena() -> Result<Seated, Refused> {
     let mut arena = Arena::with_lanes(TWO_SHARDS, 8, 3)?;
     let mut seats = vec![arena.seat()?, arena.seat()?];
     let keys: Vec<_> = (0..VALUES)
