@@ -296,7 +296,7 @@ static void little(void) {
     QUIETLY(teurlaks_retire(&many, 63, 1).status == TEURLAKS_OK);
     QUIETLY(teurlaks_begin(&many, 63) == TEURLAKS_RUNNING);
     WANT(teurlaks_put(&many, 0, (struct teurlaks_word){1, 2}).status == TEURLAKS_OK);
-    WANT(bytes - before <= SMALL + 716);
+    WANT(bytes - before <= SMALL + 708);
     before = bytes;
     WANT(teurlaks_gather(&many, 0) == TEURLAKS_OK && bytes == before);
     teurlaks_drop(&many);

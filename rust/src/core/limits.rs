@@ -20,7 +20,8 @@ pub struct Limits {
     /// How many slots of a page inserts may take, the lowest ones, 1 to 256. A page has 256 of
     /// values of up to 16 bytes, and fewer of larger ones. The fewer they take, the more pages fit
     /// each other once values are gone, so a compaction gives more back. Until then there are more
-    /// pages.
+    /// pages. Smaller pages share pages of the system: [`Core::compact`](crate::Core::compact)
+    /// brings them together, and what threads share does not, so there less leaves the process.
     pub slots: u32,
     /// How often a slot may be used, at least once. A slot that was used so often is never used
     /// again. A page of such slots makes way for another one once it has no value: when an insert
@@ -114,7 +115,7 @@ const MOST_SLOTS: u32 = 256;
 
 /// How many shards a slab or a store has where nobody says so: so many that each has few pages,
 /// whose number an adoption goes by, and so few that a compaction soon has asked each, and keys fit
-/// `KeyBits::BALANCED`. Each takes 336 bytes from its first value on.
+/// `KeyBits::BALANCED`. Each takes 320 bytes from its first value on.
 pub(crate) const SHARDS: u32 = 16;
 
 /// How many pages a shard opens until it is the turn of the next one, where nobody has set limits.

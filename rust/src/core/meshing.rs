@@ -177,7 +177,8 @@ impl Core {
 
     /// Moves each page of the shard to a block of memory that it asks for now. Pages of less than
     /// 4,096 bytes share pages of the system, and those that this empties leave the process. No key
-    /// changes.
+    /// changes. [`Core::compact`] does so at its end if [`Limits::slots`](super::Limits::slots) is
+    /// below 256.
     ///
     /// # Errors
     ///
