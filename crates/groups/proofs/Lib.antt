@@ -14,6 +14,7 @@ pub mod Guests
 pub mod HeadPlaces
 pub mod Heads
 pub mod KnownGuests
+pub mod KnownLeast
 pub mod Lists
 pub mod LiveCounts
 pub mod Logged

@@ -5,6 +5,7 @@ pub mod DirectoryKept
 pub mod FirstLive
 pub mod Group
 pub mod LateTable
+pub mod Least
 pub mod Pages
 pub mod Shown
 pub mod Sound

@@ -12,7 +12,7 @@ use Rattle.groups.specs.Spans.{union_of, with_set_at}
 use Rattle.groups.proofs.Lists.{cases-set}
 use Rattle.groups.proofs.Standing.{spans_of-with_span}
 use Rattle.groups.proofs.Unions.{keep_held}
-use Rattle.pool.specs.Least.{KnowsLeast}
+use Rattle.groups.specs.Least.{IsLeast, KnowsLeast}
 use Rattle.pool.specs.State.{PooledState}
 use Rattle.pool.proofs.RankedGroups.{get-push, get-take}
 use Rattle.pool.proofs.Walked.{before-more}
@@ -40,31 +40,9 @@ cases-swap {X} xs place x here at z there = elim (cases-set xs place last at z r
     read : slice_get (set xs place last) at ≡ Some z
     read = sym (get-take (set xs place last) (length xs - 1) at (omega (arith, shorter xs place x within, slice_get_within (swap_remove xs place x) at z there))) ∙ there
 
-module _ (groups : List PooledState) (bytes : List ℕ) (known : KnowsLeast groups bytes) where
-  -- one is replaced by one of which no fewer slots are live
-  pub KnowsLeast-more : (index : ℕ) (group now : PooledState) → slice_get groups index ≡ Some group → len (occupied group) ≤ len (occupied now) → KnowsLeast (set groups index now) bytes
-  KnowsLeast-more index group now here more at least other byte there = elim (cases-set groups index now at other there) [
-    | inl this ↦
-        let had = known index least group (subst (λ (n : ℕ). slice_get bytes n ≡ Some least) this.0 byte) here in
-        subst (λ (g : PooledState). least ≤ len (occupied g)) this.1 (omega (arith, had, more))
-    | inr that ↦ known at least other byte that.1
-  ]
-
-  -- one is replaced, and its byte with it
-  pub KnowsLeast-set : (index : ℕ) (now : PooledState) (byte : ℕ) → byte ≤ len (occupied now) → KnowsLeast (set groups index now) (set bytes index byte)
-  KnowsLeast-set index now byte few at least other its there = elim (cases-set bytes index byte at least its) [
-    | inl this ↦ elim (cases-set groups index now at other there) [
-      | inl same ↦ subst (λ (n : ℕ). n ≤ len (occupied other)) this.1 (subst (λ (g : PooledState). byte ≤ len (occupied g)) same.1 few)
-      | inr apart ↦ absurd (apart.0 this.0)
-    ]
-    | inr apart ↦ elim (cases-set groups index now at other there) [
-      | inl this ↦ absurd (apart.0 this.0)
-      | inr that ↦ known at least other apart.1 that.1
-    ]
-  ]
-
+module _ (groups : List PooledState) (bytes : List ℕ) (known : KnowsLeast IsLeast groups bytes) where
   -- one comes behind the others
-  pub KnowsLeast-push : (group : PooledState) (byte : ℕ) → length bytes ≡ length groups → byte ≤ len (occupied group) → KnowsLeast (groups ++ group ∷ []) (bytes ++ byte ∷ [])
+  pub KnowsLeast-push : (group : PooledState) (byte : ℕ) → length bytes ≡ length groups → IsLeast byte group → KnowsLeast IsLeast (groups ++ group ∷ []) (bytes ++ byte ∷ [])
   KnowsLeast-push group byte many few at least other its there = elim (get-push bytes byte at least its) [
     | inl early ↦ elim (get-push groups group at other there) [
       | inl same ↦ known at least other early same
@@ -72,13 +50,13 @@ module _ (groups : List PooledState) (bytes : List ℕ) (known : KnowsLeast grou
     ]
     | inr last ↦ elim (get-push groups group at other there) [
       | inl early ↦ absurd (omega (arith, slice_get_within groups at other early, many, last.0))
-      | inr same ↦ subst (λ (n : ℕ). n ≤ len (occupied other)) last.1 (subst (λ (g : PooledState). byte ≤ len (occupied g)) same.1 few)
+      | inr same ↦ subst (λ (n : ℕ). IsLeast n other) last.1 (subst (IsLeast byte) same.1 few)
     ]
   ]
 
   -- one goes, and the last takes its place
   pub KnowsLeast-swap : (place : ℕ) (gone : PooledState) (byte : ℕ) → length bytes ≡ length groups → slice_get groups place ≡ Some gone → slice_get bytes place ≡ Some byte
-      → KnowsLeast (swap_remove groups place gone) (swap_remove bytes place byte)
+      → KnowsLeast IsLeast (swap_remove groups place gone) (swap_remove bytes place byte)
   KnowsLeast-swap place gone byte many here its_byte at least other its there = elim (cases-swap bytes place byte its_byte at least its) [
     | inl last ↦ elim (cases-swap groups place gone here at other there) [
       | inl same ↦ known (length groups - 1) least other (subst (λ (n : ℕ). slice_get bytes (n - 1) ≡ Some least) many last.1) same.1
@@ -103,14 +81,10 @@ length-taken (x ∷ xs) zero low = refl
 length-taken (x ∷ xs) (suc n) low = ap suc (length-taken xs n (omega (arith, low)))
 
 pub KnowsLeast-next : (groups : List PooledState) (index : ℕ) (group : PooledState) → slice_get groups index ≡ Some group → (bytes : List ℕ) (byte : ℕ) → length bytes ≡ index
-    → byte ≤ len (occupied group) → KnowsLeast (take index groups) bytes → KnowsLeast (take (index + 1) groups) (bytes ++ byte ∷ [])
+    → IsLeast byte group → KnowsLeast IsLeast (take index groups) bytes → KnowsLeast IsLeast (take (index + 1) groups) (bytes ++ byte ∷ [])
 KnowsLeast-next groups index group here bytes byte many few known =
-    subst (λ (gs : List PooledState). KnowsLeast gs (bytes ++ byte ∷ [])) (sym (before-more groups index group here))
+    subst (λ (gs : List PooledState). KnowsLeast IsLeast gs (bytes ++ byte ∷ [])) (sym (before-more groups index group here))
     (KnowsLeast-push (take index groups) bytes known group byte (many ∙ sym (length-taken groups index (slice_get_within groups index group here))) few)
-
--- with no group nothing is said
-pub KnowsLeast-none : (bytes : List ℕ) → KnowsLeast [] bytes
-KnowsLeast-none bytes at least group byte there = absurd cc
 
 -- a set makes no slot live, and frees none
 pub live-set : {E : Type 0} (group : PooledState) → IsSoundGroup group → (place : ℕ) (span : SpanState) → slice_get (spans_of group) place ≡ Some span

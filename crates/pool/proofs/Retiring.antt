@@ -322,15 +322,6 @@ HasRetired-with_rooms old groups spans shard count new left is = record {
   no_other = is.no_other;
 }
 
--- one that goes alone has gone
-pub IsRetiring-alone : (pool : PoolState) (shard : ShardState) (going rest : List LiveGroup) (next : PoolState) (left : ShardState) (one : LiveGroup) → length going ≡ 1
-    → slice_get going 0 ≡ Some one → AreReady pool shard going rest → MovesSparsest pool shard next left
-    → ((more rest : List LiveGroup) → AreReady pool shard (one ∷ more) rest → AreReady next left more rest)
-    → together (shown next) (shown_by_shard left) ≡ together (shown pool) (shown_by_shard shard) → IsRetiring pool shard going (length going) next left
-IsRetiring-alone pool shard going rest next left one alone there first moves ready kept =
-    subst (λ n. IsRetiring pool shard going n next left) (omega (arith, alone))
-    (IsRetiring-next pool shard going rest 0 pool shard next left one there first (IsRetiring-first pool shard going rest first) moves ready kept)
-
 -- those that are left after all have gone
 pub AreReady-all_gone : (pool : PoolState) (shard : ShardState) (going rest : List LiveGroup) → AreReady pool shard (drop (length going) going) rest → AreSparsestFirst shard.groups rest
 AreReady-all_gone pool shard going rest ready =

@@ -2,7 +2,6 @@ pub mod Calls
 pub mod Forgets
 pub mod Groups
 pub mod Handover
-pub mod Least
 pub mod Noted
 pub mod Ranked
 pub mod RanksKept

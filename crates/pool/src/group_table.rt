@@ -27,7 +27,7 @@ ghost use Rattle.span.specs.declared.limits.TheConstants.{ALL_IDS};
 ghost use Rattle.bitmap.specs.declared.bits.TheConstants.{SLOTS};
 
 use crate::in_both::have_one_in;
-use crate::least_live::{byte_of, give_back_bytes, note_bytes};
+use crate::least_live::{byte_of_pooled, give_back_bytes, note_bytes};
 use crate::pooled::Pooled;
 use crate::ranks::Ranks;
 use crate::sparse::sparse;
@@ -125,7 +125,7 @@ impl<L: Log> GroupTable<L> {
         ensures { Inserts self.old group self.new }
     {
         note(&mut self.paged, &group);
-        let byte = byte_of(&group);
+        let byte = byte_of_pooled(&group);
         let place = self.row.len();
         self.places.insert_reserved(group.head_id().rank(), place);
         self.row.push_reserved(group);
@@ -203,7 +203,7 @@ impl<L: Log> GroupTable<L> {
             unreachable!();
         };
         let freed = self.row[at].free(alloc, place, slot, generation);
-        self.least[at] = byte_of(&self.row[at]);
+        self.least[at] = byte_of_pooled(&self.row[at]);
         freed
     }
 

@@ -1,30 +1,29 @@
 // A byte for each group: at least so many of its slots are live. A walk that asks for few live
 // slots so reads the bytes, and passes most groups by.
 ghost use Rattle.std.specs.Prelude.{◌≡◌, ◌+◌, ◌≤◌, length, vec_capacity};
-ghost use Rattle.std.specs.FinSet as set;
-ghost use Rattle.groups.specs.Group.{occupied};
-ghost use Rattle.pool.specs.Least.{KnowsLeast};
+ghost use Rattle.groups.specs.Least.{IsLeast, KnowsLeast};
 
 use crate::pooled::Pooled;
+use groups::byte_of;
 use span::spans::Log;
 
 /// The byte of the group.
-pub(crate) fn byte_of<L: Log>(group: &Pooled<L>) -> u8
-    ensures { result ≤ set.len (occupied group.now) }
+pub(crate) fn byte_of_pooled<L: Log>(group: &Pooled<L>) -> u8
+    ensures { IsLeast result group.now }
 {
-    group.spans().occupied().count().min(255) as u8
+    byte_of(&group.spans().occupied())
 }
 
 /// Makes the bytes those of the groups, for which there is room.
 pub(crate) fn note_bytes<L: Log>(least: &mut Vec<u8>, groups: &[Pooled<L>])
     requires { length groups.now ≤ vec_capacity least.old }
-    ensures known { KnowsLeast groups.now least.new.items }
+    ensures known { KnowsLeast IsLeast groups.now least.new.items }
     ensures len { length least.new.items ≡ length groups.now }
     ensures capacity { vec_capacity least.new ≡ vec_capacity least.old }
 {
     least.clear();
     for group in groups {
-        least.push_reserved(byte_of(group));
+        least.push_reserved(byte_of_pooled(group));
     }
 }
 

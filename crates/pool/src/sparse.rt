@@ -1,7 +1,7 @@
 // The groups with the fewest live slots, of which a mark of some takes so many.
 ghost use Rattle.std.specs.Prelude.{◌≡◌, ◌≤◌, ◌++◌, ◌∷◌, [], List, IfOk, length, map};
 ghost use Rattle.groups.specs.Group.{paged_in, summary};
-ghost use Rattle.pool.specs.Least.{KnowsLeast};
+ghost use Rattle.groups.specs.Least.{IsLeast, KnowsLeast};
 ghost use Rattle.pool.specs.Sparse.{AreParted, HaveSparsest};
 ghost use Rattle.span.specs.declared.entry.Entry.{Entry};
 
@@ -26,7 +26,7 @@ pub(crate) fn sparse<L: Log>(
     alloc: Global,
     most: usize,
 ) -> Result<Vec<Entry>, AllocError>
-    requires known { KnowsLeast groups.now least.now }
+    requires known { KnowsLeast IsLeast groups.now least.now }
     requires bytes { length least.now ≡ length groups.now }
     ensures { IfOk result (λ list.
         HaveSparsest most (map summary (paged_in groups.now)) list.items) }

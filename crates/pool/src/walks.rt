@@ -5,14 +5,14 @@ ghost use Rattle.span.specs.Ids.{rank};
 ghost use Rattle.groups.specs.FirstLive.{IsFirstAmong};
 ghost use Rattle.groups.specs.Group.{paged_in, spans_in, summary};
 ghost use Rattle.groups.specs.Spans.{live_count};
-ghost use Rattle.pool.specs.Least.{KnowsLeast};
+ghost use Rattle.groups.specs.Least.{IsLeast, KnowsLeast};
 ghost use Rattle.pool.specs.Sparse.{AreParted};
 ghost use Rattle.span.specs.declared.limits.TheConstants.{ALL_IDS};
 ghost use Rattle.bitmap.specs.declared.bits.TheConstants.{SLOTS};
 
 use crate::pooled::Pooled;
 use crate::sparse::push_below;
-use groups::earlier;
+use groups::{earlier, least_of};
 use span::names::{Entry, Key, SpanId};
 use span::spans::{Kept, Log, SpanLog};
 use std::alloc::{AllocError, Global};
@@ -91,14 +91,14 @@ pub(crate) fn summaries_below<L: Log>(
     bound: usize,
     most: usize,
 ) -> Result<Vec<Entry>, AllocError>
-    requires known { KnowsLeast groups.now least.now }
+    requires known { KnowsLeast IsLeast groups.now least.now }
     requires bytes { length least.now ≡ length groups.now }
     ensures { IfOk result (λ list.
         AreParted bound (map summary (paged_in groups.now)) list.items) }
 {
     let mut list = Vec::new(alloc);
     for index in 0..groups.len() {
-        if usize::from(least[index]) >= bound {
+        if least_of(least[index]) >= bound {
             continue;
         }
         let group = &groups[index];

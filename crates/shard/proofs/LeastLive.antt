@@ -1,4 +1,4 @@
--- Bytes that tell how many slots of a group are live at the least, when groups come, go and change.
+-- For which groups a byte stays right that tells how many slots are live at the least.
 use Rattle.std.proofs.Common.{zero, suc, ◌≡◌, ℕ, ◌+◌, ◌<◌, ◌≤◌, ◌∙◌, List, [], Some, ap, arith, cond, false, inl, inr, insert, length, refl, rules, set, slice_get, subst, sym}
 use Rattle.std.specs.Prelude.{map as map_list, remove}
 use Rattle.std.specs.FinSet.{contains, len, len-insert, union}
@@ -15,12 +15,12 @@ use Rattle.groups.specs.Pages.{put_group, set_group}
 use Rattle.groups.specs.Sound.{IsSoundGroup}
 use Rattle.groups.specs.Spans.{union_of, with_set_at}
 use Rattle.groups.proofs.DeadGuests.{union_of-live}
-use Rattle.groups.proofs.Lists.{before-map, cases-insert, cases-set}
-use Rattle.groups.proofs.Removed.{cases-remove}
 use Rattle.groups.proofs.Standing.{spans_of-with_span}
 use Rattle.groups.proofs.Unions.{keep_held, union-insert}
 use Rattle.shard.specs.Closes.{opened_group}
 use Rattle.shard.specs.Group.{GroupState}
+use Rattle.groups.specs.Least.{HaveLeast, least_of}
+use Rattle.groups.proofs.Lists.{there_at}
 use Rattle.shard.specs.Least.{IsLeast, KnowsLeast}
 use Rattle.shard.specs.Trims.{trimmed}
 
@@ -31,71 +31,6 @@ IsLeast-zero group some = absurd (omega (arith, some))
 -- a byte stays right if the group is as open, and no fewer of its slots are live
 pub IsLeast-more : (least : ℕ) (group now : GroupState) → now.closed ≡ group.closed → len (occupied group) ≤ len (occupied now) → IsLeast least group → IsLeast least now
 IsLeast-more least group now same more is some = let had = is some in (same ∙ had.0, omega (arith, had.1, more))
-
-module _ (groups : List GroupState) (bytes : List ℕ) (known : KnowsLeast groups bytes) where
-  -- one is replaced for which each byte stays right
-  pub KnowsLeast-set : (index : ℕ) (group now : GroupState) → slice_get groups index ≡ Some group → ((least : ℕ) → IsLeast least group → IsLeast least now)
-      → KnowsLeast (set groups index now) bytes
-  KnowsLeast-set index group now here more at least other byte there = elim (cases-set groups index now at other there) [
-    | inl this ↦ subst (IsLeast least) this.1 (more least (known index least group (subst (λ (n : ℕ). slice_get bytes n ≡ Some least) this.0 byte) here))
-    | inr that ↦ known at least other byte that.1
-  ]
-
-  -- one is replaced, and its byte is 0
-  pub KnowsLeast-cleared : (index : ℕ) (now : GroupState) → KnowsLeast (set groups index now) (set bytes index 0)
-  KnowsLeast-cleared index now at least other byte there = elim (cases-set bytes index 0 at least byte) [
-    | inl this ↦ subst (λ n. IsLeast n other) this.1 (IsLeast-zero other)
-    | inr apart ↦ elim (cases-set groups index now at other there) [
-      | inl this ↦ absurd (apart.0 this.0)
-      | inr that ↦ known at least other apart.1 that.1
-    ]
-  ]
-
-  -- all are replaced by such for which each byte stays right
-  pub KnowsLeast-map : (f : GroupState → GroupState) → ((group : GroupState) (least : ℕ) → IsLeast least group → IsLeast least (f group)) → KnowsLeast (map_list f groups) bytes
-  KnowsLeast-map f more at least other byte there =
-      let before = before-map f groups at other there in
-      subst (IsLeast least) before.2 (more before.0 least (known at least before.0 byte before.1))
-
-  -- one comes, with the byte 0
-  pub KnowsLeast-insert : (index : ℕ) (group : GroupState) → index ≤ length groups → index ≤ length bytes → KnowsLeast (insert groups index group) (insert bytes index 0)
-  KnowsLeast-insert index group within long at least other byte there = elim (cases-insert bytes index 0 long at least byte) [
-    | inl low ↦ elim (cases-insert groups index group within at other there) [
-      | inl same ↦ known at least other low.1 same.1
-      | inr (inl here) ↦ absurd (let less : at < index = low.0 in let is : at ≡ index = here.0 in omega arith)
-      | inr (inr high) ↦ absurd (let less : at < index = low.0 in let next : at ≡ high.0 + 1 = high.1 in let above : index ≤ high.0 = high.2 in omega arith)
-    ]
-    | inr (inl here) ↦ subst (λ n. IsLeast n other) here.1 (IsLeast-zero other)
-    | inr (inr above) ↦ elim (cases-insert groups index group within at other there) [
-      | inl low ↦ absurd (let less : at < index = low.0 in let next : at ≡ above.0 + 1 = above.1 in let high : index ≤ above.0 = above.2 in omega arith)
-      | inr (inl here) ↦ absurd (let is : at ≡ index = here.0 in let next : at ≡ above.0 + 1 = above.1 in let high : index ≤ above.0 = above.2 in omega arith)
-      | inr (inr high) ↦
-          let same : high.0 ≡ above.0 = let next : at ≡ above.0 + 1 = above.1 in let this : at ≡ high.0 + 1 = high.1 in omega arith in
-          known above.0 least other above.3 (subst (λ (n : ℕ). slice_get groups n ≡ Some other) same high.3)
-    ]
-  ]
-
-  -- one goes, with its byte
-  pub KnowsLeast-remove : (index : ℕ) → KnowsLeast (remove groups index) (remove bytes index)
-  KnowsLeast-remove index at least other byte there = elim (cases-remove bytes index at least byte) [
-    | inl low ↦ elim (cases-remove groups index at other there) [
-      | inl same ↦ known at least other low.1 same.1
-      | inr high ↦ absurd (let less : at < index = low.0 in let above : index ≤ at = high.0 in omega arith)
-    ]
-    | inr high ↦ elim (cases-remove groups index at other there) [
-      | inl low ↦ absurd (let less : at < index = low.0 in let above : index ≤ at = high.0 in omega arith)
-      | inr same ↦ known (suc at) least other high.1 same.1
-    ]
-  ]
-
--- a list without its last element, which is of no group
-pub KnowsLeast-front : (groups : List GroupState) (bytes more : List ℕ) → ((at least : ℕ) → slice_get bytes at ≡ Some least → slice_get more at ≡ Some least)
-    → KnowsLeast groups more → KnowsLeast groups bytes
-KnowsLeast-front groups bytes more front known at least group byte there = known at least group (front at least byte) there
-
--- with no byte nothing is said
-pub KnowsLeast-none : (groups : List GroupState) → KnowsLeast groups []
-KnowsLeast-none groups at least group byte there = absurd cc
 
 -- a put makes one slot more live
 len-insert_more : (s : SlotSet) (slot : ℕ) → len s ≤ len (fin.insert s slot)
@@ -136,3 +71,14 @@ IsLeast-without_dead group least is =
 -- a group that is open is as it is when it is opened
 pub opened_same : (group : GroupState) → group.closed ≡ false → opened_group group ≡ group
 opened_same group is_open i = record group { closed = sym is_open i }
+
+-- where the bytes say of some live slots, the groups are open
+pub open_between : (groups : List GroupState) (bytes : List ℕ) → KnowsLeast groups bytes → (first end : ℕ) → HaveLeast bytes 1 first end → end ≤ length bytes
+    → (at : ℕ) (group : GroupState) → first ≤ at → at < end → slice_get groups at ≡ Some group → group.closed ≡ false
+open_between groups bytes known first end passed long at group from low here =
+    let (byte, there) = there_at bytes at (omega (arith, low, long)) in
+    (known at byte group there here (some byte (passed at byte from low there))).0
+  where
+    some : (byte : ℕ) → 1 ≤ least_of byte → 0 < byte
+    some zero least = absurd (omega (arith, least))
+    some (suc byte) least = omega arith

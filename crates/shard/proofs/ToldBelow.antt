@@ -1,5 +1,5 @@
 -- The first groups in order, which are told of without most of the others.
-use Rattle.std.proofs.Common.{zero, suc, ◌≡◌, ℕ, ◌+◌, ◌-◌, ◌<◌, ◌≤◌, cond, List, [], ◌∷◌, ◌++◌, length, length-append, map, take, Some, slice_get, append_assoc, ◌∙◌, ap, sym, subst, inl, inr, arith, option_map, le-ltb, lt-ltb}
+use Rattle.std.proofs.Common.{zero, suc, ◌≡◌, ℕ, ◌+◌, ◌-◌, ◌<◌, ◌≤◌, ◌⊎◌, ◌&&◌, Bool, false, refl, nat_lt, cond, List, [], ◌∷◌, ◌++◌, length, length-append, map, take, Some, slice_get, append_assoc, ◌∙◌, ap, sym, subst, inl, inr, arith, option_map, le-ltb, lt-ltb}
 use Rattle.std.specs.List.{filter}
 use Rattle.std.specs.List.Sorted.{IsPermutation}
 use Rattle.std.proofs.lemmas.Bool.{cases_lt}
@@ -11,11 +11,12 @@ use Rattle.span.specs.Ids.{rank}
 use Rattle.groups.specs.Group.{Ascend, spans_of}
 use Rattle.groups.specs.Sound.{AreSoundGroups}
 use Rattle.groups.proofs.LiveCounts.{len-union_of}
-use Rattle.groups.proofs.Lists.{get_left, in_either, same_some}
+use Rattle.groups.proofs.Lists.{get_left, in_either, same_some, there_at}
 use Rattle.shard.specs.Group.{GroupState}
+use Rattle.groups.specs.Least.{HaveLeast, least_of}
 use Rattle.shard.specs.Least.{KnowsLeast}
 use Rattle.shard.specs.Sparse.{live_of, told_of}
-use Rattle.shard.specs.Telling.{AreBefore, AreFirst, AreSelected, IsCut, IsNotAfter, is_live}
+use Rattle.shard.specs.Telling.{AreBefore, AreFirst, AreSelected, IsCut, IsNotAfter, is_live, with_told}
 use Rattle.shard.specs.declared.shard.retiring.LiveGroup.{LiveGroup}
 use Rattle.shard.proofs.Sparse.{before-filter, moved, rises-told}
 
@@ -197,8 +198,60 @@ module _ (most : ℕ) (live told first : List LiveGroup) (are : AreFirst live to
 
 -- so many slots are live at the least, and so many keys
 pub least_live_of : (groups : List GroupState) (bytes : List ℕ) → KnowsLeast groups bytes → AreSoundGroups groups → (index byte : ℕ) (group : GroupState) → slice_get bytes index ≡ Some byte
-    → slice_get groups index ≡ Some group → byte ≤ live_of group
-least_live_of groups bytes known sound index byte group at here = elim (cases_lt 0 byte) [
-  | inl some ↦ omega (arith, (known index byte group at here some).1, len-union_of (spans_of group) (sound index group here).apart)
-  | inr none ↦ omega (arith, none)
-]
+    → slice_get groups index ≡ Some group → least_of byte ≤ live_of group
+least_live_of groups bytes known sound index zero group at here = omega arith
+least_live_of groups bytes known sound index (suc byte) group at here =
+    omega (arith, (known index (suc byte) group at here (omega arith)).1, len-union_of (spans_of group) (sound index group here).apart)
+
+-- ---- a group is told of if it has fewer live keys than the limit, and those are passed by whose bytes say that they have not
+
+module _ (groups : List GroupState) (ascend : Ascend groups) (bound most : ℕ) (told : List LiveGroup) (limit : ℕ) (is : IsLimit bound most (length told) limit) where
+  abbrev Telling : ℕ → List LiveGroup → Type 0
+  Telling at list = IsTelling bound most (seen_at groups at) list
+
+  left : (at : ℕ) (group : GroupState) → slice_get groups at ≡ Some group → Telling at told → (live_of group < limit → live_of group ≤ 0) → Telling (at + 1) told
+  left at group here telling many = elim (cases_lt 0 (live_of group)) [
+    | inl some ↦
+        subst (λ (list : List LiveGroup). IsTelling bound most list told) (seen-live groups at group here some)
+        (IsTelling-left bound most (seen_at groups at) told (told_of group) limit telling is (high some (cases_lt (live_of group) limit)) (lower-seen groups at group here ascend))
+    | inr none ↦ subst (λ (list : List LiveGroup). IsTelling bound most list told) (seen-none groups at group here none) telling
+  ]
+    where
+      high : 0 < live_of group → (live_of group < limit) ⊎ (limit ≤ live_of group) → limit ≤ live_of group
+      high some (inl low) = omega (arith, some, many low)
+      high some (inr enough) = enough
+
+  pub IsTelling-with : (at : ℕ) (group : GroupState) → slice_get groups at ≡ Some group → Telling at told → Telling (at + 1) (with_told told limit (told_of group))
+  IsTelling-with at group here telling = elim (cases_lt 0 (live_of group)) [
+    | inl some ↦ elim (cases_lt (live_of group) limit) [
+      | inl low ↦
+          subst (Telling (at + 1)) (sym (chosen (lt-ltb 0 (live_of group) some) (lt-ltb (live_of group) limit low)))
+          (subst (λ (list : List LiveGroup). IsTelling bound most list (told ++ told_of group ∷ [])) (seen-live groups at group here some)
+          (IsTelling-told bound most (seen_at groups at) told (told_of group) limit telling is low))
+      | inr high ↦
+          subst (Telling (at + 1)) (sym (chosen (lt-ltb 0 (live_of group) some) (le-ltb (live_of group) limit high)))
+          (left at group here telling (λ low. absurd (omega (arith, low, high))))
+    ]
+    | inr none ↦ subst (Telling (at + 1)) (sym (unchosen (le-ltb 0 (live_of group) none))) (left at group here telling (λ low. none))
+  ]
+    where
+      chosen : {b d : Bool} → is_live (told_of group) ≡ b → nat_lt (live_of group) limit ≡ d → with_told told limit (told_of group) ≡ cond (b && d) (told ++ told_of group ∷ []) told
+      chosen some low = rw (some, low) refl
+
+      unchosen : is_live (told_of group) ≡ false → with_told told limit (told_of group) ≡ told
+      unchosen none = rw none refl
+
+  module _ (bytes : List ℕ) (known : KnowsLeast groups bytes) (sound : AreSoundGroups groups) (first : ℕ) (telling : Telling first told) where
+    pub IsTelling-passed : (end : ℕ) → first ≤ end → end ≤ length groups → end ≤ length bytes → HaveLeast bytes limit first end → Telling end told
+    IsTelling-passed zero from within long passed = let same : first ≡ zero = omega (arith, from) in subst (λ (n : ℕ). Telling n told) same telling
+    IsTelling-passed (suc end) from within long passed = elim (cases_lt first (suc end)) [
+      | inl low ↦
+          let before = IsTelling-passed end (omega (arith, low)) (omega (arith, within)) (omega (arith, long)) (λ index byte at less. passed index byte at (omega (arith, less))) in
+          let (group, here) = there_at groups end (omega (arith, within)) in
+          let (byte, there) = there_at bytes end (omega (arith, long)) in
+          let next : end + 1 ≡ suc end = omega arith in
+          subst (λ (n : ℕ). Telling n told) next
+          (left end group here before
+          (λ fewer. absurd (omega (arith, fewer, passed end byte (omega (arith, low)) (omega arith) there, least_live_of groups bytes known sound end byte group there here))))
+      | inr past ↦ let same : first ≡ suc end = omega (arith, from, past) in subst (λ (n : ℕ). Telling n told) same telling
+    ]

@@ -1,5 +1,5 @@
 -- Groups that are told of, on their way into an order. No public clause cites this module.
-use Rattle.std.specs.Prelude.{◌≡◌, ◌⊎◌, ◌++◌, ℕ, ◌<◌, ◌≤◌, Bool, List, Some, length, nat_lt, slice_get}
+use Rattle.std.specs.Prelude.{◌≡◌, ◌⊎◌, ◌&&◌, ◌++◌, ◌∷◌, ℕ, ◌<◌, ◌≤◌, Bool, List, [], Some, cond, length, nat_lt, slice_get}
 use Rattle.std.specs.List.Sorted.{IsPermutation}
 use Rattle.span.specs.Ids.{rank}
 use Rattle.shard.specs.declared.shard.retiring.LiveGroup.{LiveGroup}
@@ -7,6 +7,10 @@ use Rattle.shard.specs.declared.shard.retiring.LiveGroup.{LiveGroup}
 -- a key is live in the group
 abbrev pub is_live : LiveGroup → Bool
 is_live group = nat_lt 0 group.live
+
+-- what is told, with the group after the others if a key is live in it, and fewer than the limit are
+abbrev pub with_told : List LiveGroup → ℕ → LiveGroup → List LiveGroup
+with_told told limit one = cond (is_live one && nat_lt one.live limit) (told ++ one ∷ []) told
 
 -- the other has no fewer live keys, and where it has as many, no lower head
 abbrev pub IsNotAfter : LiveGroup → LiveGroup → Type 0

@@ -7,15 +7,43 @@ ghost use Rattle.shard.specs.Least.{IsLeast, KnowsLeast};
 
 use crate::group::Group;
 use crate::group_row::GroupRow;
+use groups::byte_of;
 use span::spans::Log;
 use std::alloc::AllocError;
 
 /// What the byte of the group may be. It reads the group.
-pub(crate) fn byte_of<L: Log>(group: &Group<L>) -> u8
+pub(crate) fn byte_of_open<L: Log>(group: &Group<L>) -> u8
     requires { group.now.closed ≡ false }
     ensures { IsLeast result group.now }
 {
-    group.spans().occupied().count().min(255) as u8
+    byte_of(&group.spans().occupied())
+}
+
+/// Notes of the group at the index how many of its slots are live, if it is open.
+pub(crate) fn note_byte<L: Log>(least: &mut Vec<u8>, index: usize, group: &Group<L>)
+    requires { index < vec_len least.old }
+    ensures known { (groups : List GroupState) → slice_get groups index ≡ Some group.now
+        → KnowsLeast groups least.old.items → KnowsLeast groups least.new.items }
+    ensures len { vec_len least.new ≡ vec_len least.old }
+{
+    if group.is_closed() {
+        return;
+    }
+    least[index] = byte_of_open(group);
+}
+
+/// Notes the same of the group before the index, if there is one. If a group is opened there, the
+/// one before it has mostly been filled just now, and is no miss of the cache.
+pub(crate) fn note_before<L: Log>(least: &mut Vec<u8>, index: usize, groups: &GroupRow<L>)
+    requires index { index ≤ length groups.now.items }
+    requires bytes { length groups.now.items ≤ vec_len least.old }
+    ensures known { KnowsLeast groups.now.items least.old.items
+        → KnowsLeast groups.now.items least.new.items }
+    ensures len { vec_len least.new ≡ vec_len least.old }
+{
+    if index > 0 {
+        note_byte(least, index - 1, &groups[index - 1]);
+    }
 }
 
 /// Makes a byte for each group and for so many more, if there are fewer. Each that comes is 0.

@@ -95,8 +95,9 @@ impl<L: Log> Pool<L> {
         Ok(going.len())
     }
 
-    // Takes in the groups that are told of, in reserved room. If they are several, their places in
-    // the shard go in one walk, when all have left. For one alone fewer others are looked at.
+    // Takes in the groups that are told of, in reserved room. If they are many, their places in the
+    // shard go in one walk, when all have left. Few cost less if each place goes at once, since no
+    // other group is looked at then.
     fn move_going(&mut self, shard: &mut Shard<L>, going: &[LiveGroup])
         requires ready { (rest : List LiveGroup) × AreReady self.old shard.old going.now rest }
         requires unclosed { list_any (λ group. group.closed) shard.old.groups ≡ false }
@@ -112,12 +113,33 @@ impl<L: Log> Pool<L> {
         ensures sound { IsSound self.new }
         ensures sound_shard { IsSoundShard shard.new }
     {
-        if going.len() == 1 {
-            self.take_alone(shard, &going[0]);
+        if going.len() <= FEW {
+            self.take_each(shard, going);
             return;
         }
         self.take_going(shard, going);
         shard.sweep();
+    }
+
+    // Takes in the groups that are told of, one after another, in reserved room. The place of each
+    // in the shard goes.
+    fn take_each(&mut self, shard: &mut Shard<L>, going: &[LiveGroup])
+        requires ready { (rest : List LiveGroup) × AreReady self.old shard.old going.now rest }
+
+        // They came.
+        ensures moved { MovesSparse (length going.now) self.old shard.old self.new shard.new }
+        ensures whole { HasRetired self.old shard.old (length going.now) self.new shard.new }
+        ensures left { (rest : List LiveGroup) → AreReady self.old shard.old going.now rest
+            → AreSparsestFirst shard.new.groups rest }
+        ensures kept { together (shown self.new) (shown_by_shard shard.new)
+            ≡ together (shown self.old) (shown_by_shard shard.old) }
+
+        ensures sound { IsSound self.new }
+        ensures sound_shard { IsSoundShard shard.new }
+    {
+        for one in going {
+            self.take_alone(shard, one);
+        }
     }
 
     // Takes in the group that is told of, in reserved room, and its place in the shard goes.
@@ -177,6 +199,10 @@ impl<L: Log> Pool<L> {
         self.take_in(whole);
     }
 }
+
+// How many groups leave one by one. Each moves a few bytes for each group of the shard; a walk reads
+// all of them.
+const FEW: usize = 64;
 
 // How many spans the groups have together.
 fn span_count(going: &[LiveGroup]) -> usize

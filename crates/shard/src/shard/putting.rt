@@ -11,7 +11,7 @@ use super::Shard;
 use crate::error::PutError;
 use crate::group::{Group, make_room};
 use crate::group_row::GroupRow;
-use crate::least_live::{add_byte, reserve_bytes};
+use crate::least_live::{add_byte, note_before, reserve_bytes};
 use groups::{Placed, Spans};
 use page::{MaybePage, Page};
 use span::names::{Class, Key, Object, SpanId};
@@ -163,6 +163,7 @@ impl<L: Log> Shard<L> {
             .reserve(self.opened as usize + 1, self.groups.len() + 1)?;
         reserve_bytes(&mut self.least, &self.groups, 1)?;
         let index = self.groups.lower_heads(id);
+        note_before(&mut self.least, index, &self.groups);
         self.groups.insert_reserved(
             index,
             Group::of(Spans::of(self.alloc, head), MaybePage::new(page, true)),

@@ -1,19 +1,22 @@
 // The groups with a live key, those with the fewest first.
-ghost use Rattle.std.specs.Prelude.{◌≡◌, ◌-◌, ◌<◌, ◌≤◌, IfOk, List, length, map, take, vec_len};
+ghost use Rattle.std.specs.Prelude.{◌≡◌, ◌-◌, ◌<◌, ◌≤◌, IfOk, List, OnOk, length, map, take, vec_len};
 ghost use Rattle.std.specs.List.{filter};
 ghost use Rattle.std.specs.List.Sorted.{IsPermutation};
+ghost use Rattle.bitmap.specs.declared.bits.TheConstants.{SLOTS};
 ghost use Rattle.span.specs.Ids.{rank};
 ghost use Rattle.groups.specs.Group.{Ascend};
 ghost use Rattle.groups.specs.Sound.{AreSoundGroups};
 ghost use Rattle.shard.specs.Least.{KnowsLeast};
 ghost use Rattle.shard.specs.Sparse.{AreSparsestFirst, told_of};
-ghost use Rattle.shard.specs.Telling.{AreFirst, AreInOrder, AreSelected, is_live};
+ghost use Rattle.shard.specs.Telling.{AreFirst, AreInOrder, AreSelected, is_live, with_told};
 ghost use Rattle.shard.specs.declared.shard.retiring.LiveGroup.{LiveGroup};
 
 use super::Shard;
 use crate::group::Group;
 use crate::group_row::GroupRow;
-use groups::{LiveTally, sample_step};
+use crate::least_live::note_byte;
+use bitmap::SLOTS;
+use groups::{LiveTally, least_of, next_below, sample_step};
 use span::names::SpanId;
 use span::spans::Log;
 use std::alloc::{AllocError, Global};
@@ -31,47 +34,56 @@ pub struct LiveGroup {
 
 impl<L: Log> Shard<L> {
     /// Up to so many groups with a live key: those with the fewest first, and of those with as many
-    /// the one of lowest head. If few are asked for, most of the others are only looked at, or not
-    /// even that if [`Shard::least_live`] says that they have more.
+    /// the one of lowest head. If few are asked for, it reads no group of which
+    /// [`Shard::least_live`] says that it has more, and notes of each other how many it has.
     ///
     /// # Errors
     ///
     /// `AllocError` where the list could not grow.
-    pub fn sparsest(&self, most: usize) -> Result<Vec<LiveGroup>, AllocError>
-        ensures { IfOk result (λ told. (all : List LiveGroup)
-            × AreSparsestFirst self.now.groups all × (told.items ≡ take most all)) }
+    pub fn sparsest(&mut self, most: usize) -> Result<Vec<LiveGroup>, AllocError>
+        ensures told { IfOk result (λ told. (all : List LiveGroup)
+            × AreSparsestFirst self.old.groups all × (told.items ≡ take most all)) }
+        ensures same { self.new ≡ self.old }
     {
-        let mut first = first_of_groups(self.alloc, &self.groups, &self.least, most)?;
+        let mut first = first_of_groups(self.alloc, &self.groups, &mut self.least, most)?;
         sort(&mut first);
         Ok(first)
     }
 }
 
 // Those that come first in order of the groups with a live key, as many as that, in no order. It
-// guesses from a sample how many live keys these have at most, and tells no other group; if they
-// turn out to be too few, it tells all.
+// guesses from a sample how many live keys these have at most, and tells no other group. If they
+// turn out to be too few, it guesses again, since bytes that said too little have been noted anew,
+// and then tells all.
 fn first_of_groups<L: Log>(
     alloc: Global,
     groups: &GroupRow<L>,
-    least: &Vec<u8>,
+    least: &mut Vec<u8>,
     most: usize,
 ) -> Result<Vec<LiveGroup>, AllocError>
     requires ascend { Ascend groups.now.items }
     requires sound { AreSoundGroups groups.now.items }
-    requires bytes { length groups.now.items ≤ vec_len least.now }
-    requires known { KnowsLeast groups.now.items least.now.items }
-    ensures { IfOk result (λ first.
+    requires bytes { length groups.now.items ≤ vec_len least.old }
+    requires known { KnowsLeast groups.now.items least.old.items }
+    ensures first { IfOk result (λ first.
         AreSelected most (filter is_live (map told_of groups.now.items)) first.items) }
+    ensures known { KnowsLeast groups.now.items least.new.items }
+    ensures len { vec_len least.new ≡ vec_len least.old }
 {
-    let Some(bound) = likely_bound(groups, most) else {
-        return first_of_all(alloc, groups, most);
-    };
-    let told = tell_below(alloc, groups, least, bound, most)?;
-    if told.len() < most {
-        return first_of_all(alloc, groups, most);
+    for _ in 0..GUESSES {
+        let Some(bound) = likely_bound(groups, least, most) else {
+            return first_of_all(alloc, groups, most);
+        };
+        let told = tell_below(alloc, groups, least, bound, most)?;
+        if told.len() >= most {
+            return first_of(alloc, told, most);
+        }
     }
-    first_of(alloc, told, most)
+    first_of_all(alloc, groups, most)
 }
+
+// How often it guesses.
+const GUESSES: usize = 3;
 
 // The same, by telling each group.
 fn first_of_all<L: Log>(
@@ -88,19 +100,22 @@ fn first_of_all<L: Log>(
 }
 
 // How many live keys may be too many for the first groups, as many as that, by a sample.
-fn likely_bound<L: Log>(groups: &GroupRow<L>, most: usize) -> Option<usize> {
+fn likely_bound<L: Log>(groups: &GroupRow<L>, least: &Vec<u8>, most: usize) -> Option<usize>
+    requires { length groups.now.items ≤ vec_len least.now }
+{
     let step = sample_step(groups.len());
-    sample(groups, step).likely_bound(most, step)
+    sample(groups, least, step).likely_bound(most, step)
 }
 
 // How many of one group of each `step` have so many live keys, of those that have any.
-fn sample<L: Log>(groups: &GroupRow<L>, step: usize) -> LiveTally
-    requires { 1 ≤ step }
+fn sample<L: Log>(groups: &GroupRow<L>, least: &Vec<u8>, step: usize) -> LiveTally
+    requires step { 1 ≤ step }
+    requires bytes { length groups.now.items ≤ vec_len least.now }
 {
     let mut tally = LiveTally::none();
     let mut index = 0;
     while index < groups.len() {
-        let live = groups[index].live();
+        let live = likely_live(groups, least, index);
         if live > 0 {
             tally.count(live);
         }
@@ -109,37 +124,68 @@ fn sample<L: Log>(groups: &GroupRow<L>, step: usize) -> LiveTally
     tally
 }
 
+// How many live keys the group has by its byte. It reads no group of which one is noted.
+fn likely_live<L: Log>(groups: &GroupRow<L>, least: &Vec<u8>, index: usize) -> usize
+    requires index { index < length groups.now.items }
+    requires bytes { length groups.now.items ≤ vec_len least.now }
+    ensures { result ≤ SLOTS }
+{
+    let byte = least[index];
+    if byte > 0 {
+        return least_of(byte).min(SLOTS);
+    }
+    groups[index].live()
+}
+
 // What is told of the first groups in order with a live key, by ascending head: of each that has
 // fewer than the bound. Once it tells of `most`, those that have one fewer come after these. Those
-// whose bytes say that they have too many are not looked at.
+// whose bytes say that they have too many are not looked at. Of the others it notes how many they
+// have, so that these are passed by another time.
 fn tell_below<L: Log>(
     alloc: Global,
     groups: &GroupRow<L>,
-    least: &Vec<u8>,
+    least: &mut Vec<u8>,
     bound: usize,
     most: usize,
 ) -> Result<Vec<LiveGroup>, AllocError>
     requires ascend { Ascend groups.now.items }
     requires sound { AreSoundGroups groups.now.items }
-    requires bytes { length groups.now.items ≤ vec_len least.now }
-    requires known { KnowsLeast groups.now.items least.now.items }
-    ensures { IfOk result (λ told.
+    requires bytes { length groups.now.items ≤ vec_len least.old }
+    requires known { KnowsLeast groups.now.items least.old.items }
+    ensures told { IfOk result (λ told.
         AreFirst (filter is_live (map told_of groups.now.items)) told.items) }
+    ensures known { KnowsLeast groups.now.items least.new.items }
+    ensures len { vec_len least.new ≡ vec_len least.old }
 {
+    let count = groups.len();
     let mut told = Vec::new(alloc);
-    for index in 0..groups.len() {
+    let mut index = 0;
+    while index < count {
         let limit = limit_of(bound, most, told.len());
-        let byte = least[index] as usize;
-        if byte >= limit {
-            continue;
-        }
-        let group = &groups[index];
-        let live = group.live();
-        if live > 0 && live < limit {
-            told.push(told_of(group))?;
+        index = next_below(least.as_slice(), index, count, limit);
+        if index < count {
+            let group = &groups[index];
+            note_byte(least, index, group);
+            tell_below_limit(&mut told, group, limit)?;
+            index += 1;
         }
     }
     Ok(told)
+}
+
+// Tells of the group if a key is live in it, and fewer than the limit are.
+fn tell_below_limit<L: Log>(
+    told: &mut Vec<LiveGroup>,
+    group: &Group<L>,
+    limit: usize,
+) -> Result<(), AllocError>
+    ensures { OnOk result (told.new.items ≡ with_told told.old.items limit (told_of group.now)) }
+{
+    let live = group.live();
+    if live > 0 && live < limit {
+        told.push(told_of(group))?;
+    }
+    Ok(())
 }
 
 // How many live keys are too many for a group to be told of, after so many.

@@ -12,7 +12,7 @@ ghost use Rattle.shard.specs.Sound.{IsSound};
 
 use super::Shard;
 use crate::group_row::GroupRow;
-use groups::earlier;
+use groups::{earlier, least_of};
 use span::names::{Key, SpanId};
 use span::spans::Log;
 
@@ -29,14 +29,14 @@ impl<L: Log> Shard<L> {
 
     /// At least so many slots are live in the group at the index, by ascending head. It reads no
     /// group. 0 says nothing: a closed group has it, and one that came, took spans in or lost a key
-    /// since [`Shard::reopen`] was called last. The clause allows any lower number as well.
+    /// since it was noted last. The clause allows any lower number as well.
     #[inline]
     pub fn least_live(&self, index: usize) -> usize
         requires { index < length self.now.groups }
         ensures { (group : GroupState) → slice_get self.now.groups index ≡ Some group
             → result ≤ set.len (occupied group) }
     {
-        self.least[index] as usize
+        least_of(self.least[index])
     }
 }
 

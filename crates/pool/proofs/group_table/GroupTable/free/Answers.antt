@@ -13,7 +13,8 @@ use Rattle.pool.specs.State.{PooledState}
 use Rattle.pool.proofs.Cases.{on_false, on_true}
 use Rattle.pool.proofs.FreedPlace.{head-free, paged-free}
 use Rattle.pool.proofs.KeptTable.{AreKept-set}
-use Rattle.pool.proofs.LeastLive.{KnowsLeast-set}
+use Rattle.groups.specs.Least.{IsLeast}
+use Rattle.groups.proofs.KnownLeast.{KnowsLeast-noted}
 use Rattle.pool.proofs.RankedGroups.{found_within, has_place}
 use Rattle.pool.proofs.ReadGroup.{IsRead, IsRead-found}
 use Rattle.pool.proofs.group_table.GroupTable.free.Goals as goal
@@ -61,17 +62,17 @@ invariant_of-self g c =
     let read_now : c.index.result.now ≡ now =
     same_some (sym (slice_get_read (set row c.in-Some.at now) (length (set row c.in-Some.at now)) c.in-Some.at c.index.result.now refl low c.index.ensures)
     ∙ get-set row c.in-Some.at read now (its g (goal.at.invariant_of-self g c).After-index_mut).there) in
-    let few : c.byte_of.result ≤ len (occupied now) = subst (λ (x : PooledState). c.byte_of.result ≤ len (occupied x)) read_now c.byte_of.ensures in
+    let few : IsLeast c.byte_of_pooled.result now = subst (IsLeast c.byte_of_pooled.result) read_now c.byte_of_pooled.ensures in
     record {
       kept = AreKept-set c.self.inside.row.items _ (table.get c.self.inside.places.entries) _ c.self.inside.paged c.self.inside.room c.self.invariant.kept c.in-Some.at read c.free-freed.new.self (its g (goal.at.invariant_of-self g c).After-index_mut).there
           (head-free c.free-freed.result read c.free-freed.new.self c.args.place span.0 changed span.1 refl freed c.free-freed.ensures.unknown)
           (paged-free c.free-freed.result read c.free-freed.new.self c.args.place changed freed c.free-freed.ensures.unknown);
       few = omega (arith, c.self.invariant.few, length-set c.self.inside.row.items c.in-Some.at c.free-freed.new.self);
-      known = KnowsLeast-set c.self.inside.row.items c.self.inside.least.items c.self.invariant.known c.in-Some.at c.free-freed.new.self c.byte_of.result few;
+      known = KnowsLeast-noted IsLeast c.self.inside.row.items c.self.inside.least.items c.self.invariant.known c.in-Some.at c.byte_of_pooled.result c.free-freed.new.self few;
       bytes = omega (
         arith,
         c.self.invariant.bytes,
-        length-set c.self.inside.least.items c.in-Some.at c.byte_of.result,
+        length-set c.self.inside.least.items c.in-Some.at c.byte_of_pooled.result,
         length-set c.self.inside.row.items c.in-Some.at c.free-freed.new.self,
       );
       in_bytes = omega (arith, c.self.invariant.in_bytes, length-set c.self.inside.row.items c.in-Some.at c.free-freed.new.self);

@@ -35,7 +35,7 @@ invariant_of-self g c =
       };
       few = omega (arith, c.push_reserved.ensures.len, c.push_reserved.new.self.ok.0, c.self.inside.row.ok.0, c.note.ensures.few, c.self.invariant.few);
       known = rw (c.push_reserved.ensures.items, c.push_reserved-2.ensures.items)
-          (KnowsLeast-push row c.self.inside.least.items c.self.invariant.known group c.byte_of-byte.result c.self.invariant.bytes c.byte_of-byte.ensures);
+          (KnowsLeast-push row c.self.inside.least.items c.self.invariant.known group c.byte_of_pooled-byte.result c.self.invariant.bytes c.byte_of_pooled-byte.ensures);
       bytes = omega (
         arith,
         c.self.invariant.bytes,

@@ -2,10 +2,10 @@ use Rattle.std.proofs.Common.{List, ap, arith, length, slice_get, subst, sym, �
 use Rattle.std.specs.FinMap as table
 use Rattle.std.specs.Ordering.{nat_cmp}
 use Rattle.groups.specs.LateTable.{TableState}
-use Rattle.pool.specs.Least.{KnowsLeast}
+use Rattle.groups.specs.Least.{IsLeast, KnowsLeast}
 use Rattle.pool.specs.Ranked.{AreFound}
 use Rattle.pool.specs.State.{PooledState}
-use Rattle.pool.proofs.LeastLive.{KnowsLeast-none}
+use Rattle.groups.proofs.KnownLeast.{KnowsLeast-no_groups}
 use Rattle.pool.proofs.RankedGroups.{AreFound-none}
 use Rattle.pool.proofs.group_table.GroupTable.new.Goals as goal
 
@@ -24,7 +24,7 @@ invariant_of-result g c =
         all_in_heap = omega (arith, none);
       };
       few = omega (arith, none, no_rank);
-      known = subst (λ (gs : List PooledState). KnowsLeast gs c.new-2.result.items) (sym c.new.ensures.items) (KnowsLeast-none c.new-2.result.items);
+      known = subst (λ (gs : List PooledState). KnowsLeast IsLeast gs c.new-2.result.items) (sym c.new.ensures.items) (KnowsLeast-no_groups IsLeast c.new-2.result.items);
       bytes = omega (arith, none, ap (λ (ns : List ℕ). length ns) c.new-2.ensures.items);
       in_bytes = omega (arith, none);
     }

@@ -11,7 +11,9 @@ use Rattle.pool.specs.State.{PooledState}
 use Rattle.std.proofs.lemmas.Result.{IfOk-weaker, on_err_weaker}
 use Rattle.pool.proofs.Cases.{on_false, on_true}
 use Rattle.pool.proofs.KeptTable.{AreKept-set}
-use Rattle.pool.proofs.LeastLive.{KnowsLeast-more, live-set}
+use Rattle.groups.specs.Least.{IsLeast}
+use Rattle.groups.proofs.KnownLeast.{KnowsLeast-set}
+use Rattle.pool.proofs.LeastLive.{live-set}
 use Rattle.pool.proofs.RankedGroups.{found_within, has_place}
 use Rattle.pool.proofs.ReadGroup.{IsRead, IsRead-found}
 use Rattle.pool.proofs.SetPlace.{head-set, paged-set}
@@ -53,10 +55,14 @@ invariant_of-self g c =
           (paged-set read (subst IsSoundGroup (one g (goal.at.invariant_of-self g c).After-index_mut) c.requires.3) c.args.place span.0 span.1 c.args.slot c.args.generation c.args.words.now c.set.result c.set.new.self
           (c.set.ensures.found span.0 span.1) c.set.ensures.unknown c.set.ensures.err);
       few = omega (arith, c.self.invariant.few, length-set c.self.inside.row.items c.in-Some.at c.set.new.self);
-      known = KnowsLeast-more c.self.inside.row.items c.self.inside.least.items c.self.invariant.known c.in-Some.at read c.set.new.self
+      known = KnowsLeast-set IsLeast c.self.inside.row.items c.self.inside.least.items c.self.invariant.known c.in-Some.at read c.set.new.self
           (its g (goal.at.invariant_of-self g c).After-index_mut).there
-          (live-set read (subst IsSoundGroup (one g (goal.at.invariant_of-self g c).After-index_mut) c.requires.3) c.args.place span.0 span.1 c.args.slot c.args.generation
-          c.args.words.now c.set.result c.set.new.self (c.set.ensures.found span.0 span.1) (c.set.ensures.set span.0 span.1) c.set.ensures.unknown c.set.ensures.err);
+          (λ byte had. omega (
+            arith,
+            had,
+            live-set read (subst IsSoundGroup (one g (goal.at.invariant_of-self g c).After-index_mut) c.requires.3) c.args.place span.0 span.1 c.args.slot c.args.generation
+                c.args.words.now c.set.result c.set.new.self (c.set.ensures.found span.0 span.1) (c.set.ensures.set span.0 span.1) c.set.ensures.unknown c.set.ensures.err,
+          ));
       bytes = omega (arith, c.self.invariant.bytes, length-set c.self.inside.row.items c.in-Some.at c.set.new.self);
       in_bytes = omega (arith, c.self.invariant.in_bytes, length-set c.self.inside.row.items c.in-Some.at c.set.new.self);
     }

@@ -1,5 +1,4 @@
-use Rattle.std.proofs.Common.{◌∙◌, ◌≡◌, Some, ap, arith, drop, length, refl, slice_get, subst, sym}
-use Rattle.std.proofs.lemmas.Option.{slice_get_read}
+use Rattle.std.proofs.Common.{◌∙◌, ap, length, subst, sym}
 use Rattle.shard.proofs.Left.{swept-open}
 use Rattle.shard.specs.Leaving.{swept}
 use Rattle.shard.specs.Shown.{shown as shown_by_shard}
@@ -8,49 +7,7 @@ use Rattle.shard.specs.State.{ShardState}
 use Rattle.pool.specs.Handover.{AreReady}
 use Rattle.pool.specs.Retires.{HasRetired, MovesSparse}
 use Rattle.pool.specs.Shown.{shown, together}
-use Rattle.pool.proofs.Retiring.{AreReady-all_gone, AreReady-at, IsRetiring, IsRetiring-alone}
 use Rattle.pool.proofs.pool.Pool.move_going.Goals as goal
-
--- one goes alone
-
-pub take_alone-requires : goal.take_alone-requires
-take_alone-requires g c =
-    let going = c.args.going.now in
-    let here : slice_get going 0 ≡ Some c.index-going-0.result = slice_get_read going (length going) 0 c.index-going-0.result refl (omega (arith, c.if-going-eq1.true)) c.index-going-0.is in (
-      drop 1 going,
-      c.requires.ready.0,
-      AreReady-at c.args.self.now c.args.shard.now going c.requires.ready.0 0 c.index-going-0.result here c.requires.ready.1,
-    )
-
-gone : (g : _) (c : goal.After-take_alone g)
-    → IsRetiring c.args.self.now c.args.shard.now c.args.going.now (length c.args.going.now) c.take_alone.new.self c.take_alone.new.shard
-gone g c =
-    let going = c.args.going.now in
-    let count : length going ≡ 1 = omega (arith, c.if-going-eq1.true) in
-    let here : slice_get going 0 ≡ Some c.index-going-0.result = slice_get_read going (length going) 0 c.index-going-0.result refl (omega (arith, count)) c.index-going-0.is in
-    IsRetiring-alone c.args.self.now c.args.shard.now going c.requires.ready.0 c.take_alone.new.self c.take_alone.new.shard c.index-going-0.result count here c.requires.ready.1
-    c.take_alone.ensures.moves c.take_alone.ensures.ready c.take_alone.ensures.kept
-
-pub returns-then-going-eq1-clause-moved : goal.returns-then-going-eq1-clause-moved
-returns-then-going-eq1-clause-moved g c = (gone g c).moved
-
-pub returns-then-going-eq1-clause-whole : goal.returns-then-going-eq1-clause-whole
-returns-then-going-eq1-clause-whole g c = (gone g c).whole
-
-pub returns-then-going-eq1-clause-left : goal.returns-then-going-eq1-clause-left
-returns-then-going-eq1-clause-left g c = λ rest ready.
-    AreReady-all_gone c.take_alone.new.self c.take_alone.new.shard c.args.going.now rest ((gone g c).ready rest ready)
-
-pub returns-then-going-eq1-clause-kept : goal.returns-then-going-eq1-clause-kept
-returns-then-going-eq1-clause-kept g c = (gone g c).kept
-
-pub returns-then-going-eq1-clause-sound : goal.returns-then-going-eq1-clause-sound
-returns-then-going-eq1-clause-sound g c = ((gone g c).ready c.requires.ready.0 c.requires.ready.1).sound
-
-pub returns-then-going-eq1-clause-sound_shard : goal.returns-then-going-eq1-clause-sound_shard
-returns-then-going-eq1-clause-sound_shard g c = ((gone g c).ready c.requires.ready.0 c.requires.ready.1).sound_shard
-
--- several go
 
 pub take_going-requires : goal.take_going-requires
 take_going-requires g c = record {

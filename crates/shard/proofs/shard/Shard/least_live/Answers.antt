@@ -1,6 +1,7 @@
 use Rattle.std.proofs.Common.{◌≡◌, Some, ap, arith, inl, inr, length, refl, slice_get, subst, sym}
 use Rattle.std.proofs.lemmas.Bool.{cases_lt}
 use Rattle.std.proofs.lemmas.Option.{slice_get_read}
+use Rattle.groups.specs.Least.{least_of}
 use Rattle.shard.specs.State.{ShardState}
 use Rattle.shard.proofs.shard.Shard.least_live.Goals as goal
 
@@ -12,6 +13,6 @@ returns g c group here =
     slice_get_read c.self.inside.least.items _ c.args.index c.index.result.now refl
     (omega (arith, c.requires, many, c.self.invariant.room_for_bytes, c.self.inside.least.ok.0)) c.index.ensures in
     elim (cases_lt 0 c.index.result.now) [
-      | inl some ↦ (c.self.invariant.least_known c.args.index c.index.result.now group byte there some).1
-      | inr none ↦ omega (arith, none)
+      | inl some ↦ omega (arith, c.least_of.ensures, (c.self.invariant.least_known c.args.index c.index.result.now group byte there some).1)
+      | inr none ↦ let zero_is : c.index.result.now ≡ 0 = omega (arith, none) in omega (arith, c.least_of.ensures, ap least_of zero_is)
     ]

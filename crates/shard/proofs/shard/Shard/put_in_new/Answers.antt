@@ -18,6 +18,7 @@ use Rattle.groups.proofs.Standing.{head_id}
 use Rattle.shard.specs.Calls.{new_group}
 use Rattle.shard.specs.Group.{GroupState, group_of}
 use Rattle.shard.specs.Kept.{state_of}
+use Rattle.shard.specs.Least.{KnowsLeast}
 use Rattle.shard.specs.Rooms.{HaveRoom, room_of, rooms_of}
 use Rattle.shard.specs.State.{ShardState}
 use Rattle.span.specs.declared.class.Class.{Class}
@@ -84,6 +85,12 @@ below_now g c class n less = c.note_arrival.ensures.below class n less ∙ ap (�
 above_now : (g : _) (c : goal.After-self-3-1 g) → (class : Class) (n : ℕ) → c.lower_heads-index.result ≤ n
     → contains (rooms_of c.note_arrival.new.self class) (n + 1) ≡ contains (rooms_of c.self.inside.rooms class) n
 above_now g c class n from = c.note_arrival.ensures.above class n from ∙ ap (λ s. contains s n) (c.in_ok-reserve.ensures.same class)
+
+-- the byte of the group before it may be another
+noted : (g : _) (c : goal.After-self-3-1 g) → KnowsLeast c.self.inside.groups.items c.note_before.new.least.items
+noted g c = rw (← c.in_ok-reserve_group.ensures.items)
+    (c.note_before.ensures.known
+    (rw c.in_ok-reserve_group.ensures.items (c.in_ok-reserve_bytes.ensures.known c.self.inside.groups.items c.self.invariant.least_known)))
 
 -- each set that had room for the groups has room for one more
 room_before : (g : _) (c : goal.After-self-3-1 g)
@@ -189,7 +196,7 @@ invariant_of-self-2 g c = record {
       c.in_ok-reserve-2.ensures.base c.in_ok-reserve-2.ensures.same));
   room_for_heads = λ some. omega (arith, c.in_ok-reserve-2.ensures.ok, c.note_arrival-2.ensures.end);
   guests_noted = AreNoted-come _ _ _ _ _ _ c.self.invariant.guests_noted _ _ c.self.invariant.guests_noted.known _ _ c.saturating_sub-self-inside.ensures;
-  least_known = rw (groups_now g c) (c.add_byte.ensures.known c.self.inside.groups.items (made g c) (place_now g c).within (c.in_ok-reserve_bytes.ensures.known c.self.inside.groups.items c.self.invariant.least_known));
+  least_known = rw (groups_now g c) (c.add_byte.ensures.known c.self.inside.groups.items (made g c) (place_now g c).within (noted g c));
   room_for_bytes = omega (
     arith,
     c.self.invariant.room_for_bytes,
@@ -197,6 +204,7 @@ invariant_of-self-2 g c = record {
     c.in_ok-reserve_group.ensures.len,
     c.in_ok-reserve_bytes.ensures.no_fewer,
     c.in_ok-reserve_bytes.ensures.ok,
+    c.note_before.ensures.len,
     c.add_byte.ensures.len,
     c.saturating_sub-self-inside.ensures,
   );
@@ -264,6 +272,7 @@ add_byte-requires g c =
       ap length c.in_ok-reserve_group.ensures.items,
       c.in_ok-reserve_group.ensures.len,
       c.in_ok-reserve_bytes.ensures.ok,
+      c.note_before.ensures.len,
     )
 
 -- where the lists of the last steps could not grow, the state is what it was

@@ -10,7 +10,8 @@ use Rattle.shard.specs.Rooms.{rooms_of}
 use Rattle.shard.specs.State.{ShardState}
 use Rattle.shard.proofs.AlikeGroups.{IsSound-alike, bare}
 use Rattle.shard.proofs.KeptGroups.{IsKept-replaced}
-use Rattle.shard.proofs.LeastLive.{KnowsLeast-set}
+use Rattle.groups.proofs.KnownLeast.{KnowsLeast-set}
+use Rattle.shard.specs.Least.{IsLeast}
 use Rattle.shard.proofs.RoomBits.{HasRooms-full}
 use Rattle.shard.proofs.shard.Shard.renew.Goals as goal
 
@@ -31,4 +32,4 @@ invariant_of-self g c =
     (ap (set c.self.inside.groups.items c.args.index) c.renew.ensures) refl
     (IsSound-alike (state_of c.self.inside) (set c.self.inside.groups.items c.args.index group) (ap (map_list bare) (same g c)) (subst AreSoundGroups (sym (same g c)) c.self.invariant.sound.groups) c.self.invariant.sound)
     (λ class. HasRooms-full class c.self.inside.groups.items (rooms_of c.self.inside.rooms class) (c.self.invariant.rooms class) c.args.index group group (here g c) refl (λ none. none))
-    (λ class. omega arith) (KnowsLeast-set c.self.inside.groups.items c.self.inside.least.items c.self.invariant.least_known c.args.index group group (here g c) (λ least is. is))
+    (λ class. omega arith) (KnowsLeast-set IsLeast c.self.inside.groups.items c.self.inside.least.items c.self.invariant.least_known c.args.index group group (here g c) (λ least is. is))

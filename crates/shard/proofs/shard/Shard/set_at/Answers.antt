@@ -22,7 +22,9 @@ use Rattle.groups.proofs.ShownChanges.{may_set-settable}
 use Rattle.shard.proofs.ShownLogs.{IsSound-Sets, shown-Sets, was_replaced-Sets}
 use Rattle.groups.proofs.ReplacedGroups.{AreAlike-with_span}
 use Rattle.shard.proofs.KeptGroups.{IsKept-replaced, IsKept-same}
-use Rattle.shard.proofs.LeastLive.{IsLeast-set, KnowsLeast-set}
+use Rattle.shard.proofs.LeastLive.{IsLeast-set}
+use Rattle.groups.proofs.KnownLeast.{KnowsLeast-set}
+use Rattle.shard.specs.Least.{IsLeast}
 use Rattle.shard.proofs.shard.Shard.set_at.Goals as goal
 
 done : (b : Bool) {P : Type 0} → b ≡ true → OnTrue b P → P
@@ -147,7 +149,7 @@ invariant_of-self-2 g c =
     (class-with_span group place span (with_set_at span key.slot key.generation words) here.span_is refl)
     (HasNoRoom-set group span key.slot key.generation words place here.span_is (kept.sound.groups c.args.index group here.group_is).apart (settable_now g c) c.self.inside.slot_limit class))
     (λ class. omega arith)
-    (KnowsLeast-set c.self.inside.groups.items c.self.inside.least.items kept.least_known c.args.index group (set_group group place span key.slot key.generation words) here.group_is
+    (KnowsLeast-set IsLeast c.self.inside.groups.items c.self.inside.least.items kept.least_known c.args.index group (set_group group place span key.slot key.generation words) here.group_is
     (IsLeast-set group (kept.sound.groups c.args.index group here.group_is) place span here.span_is key.slot key.generation words (settable_now g c).0))
 
 pub returns-clause-step : goal.returns-clause-step

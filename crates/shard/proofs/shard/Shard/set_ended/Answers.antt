@@ -5,7 +5,8 @@ use Rattle.shard.specs.Kept.{state_of}
 use Rattle.shard.specs.State.{ShardState}
 use Rattle.shard.proofs.ClassesHere.{HaveRoom-none}
 use Rattle.shard.proofs.KnownHeads.{KnowsHeads-none}
-use Rattle.shard.proofs.LeastLive.{KnowsLeast-none}
+use Rattle.groups.proofs.KnownLeast.{KnowsLeast-no_bytes}
+use Rattle.shard.specs.Least.{IsLeast}
 use Rattle.shard.proofs.GuestRoom.{HasGuestRoom-none}
 use Rattle.shard.proofs.NotedGuests.{KnowsNotes-none}
 use Rattle.shard.proofs.RoomBits.{HasRooms-empty}
@@ -42,7 +43,7 @@ invariant_of-self g c =
         for_group = λ some. absurd (omega (arith, some));
         for_guests = λ head named. absurd cc;
       };
-      least_known = rw c.new-7.ensures.items (KnowsLeast-none _);
+      least_known = rw c.new-7.ensures.items (KnowsLeast-no_bytes IsLeast _);
       room_for_bytes = omega (arith, ap length c.new.ensures.items, c.new-7.result.ok.1);
     }
 

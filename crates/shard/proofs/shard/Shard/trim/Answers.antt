@@ -8,7 +8,9 @@ use Rattle.shard.specs.Trims.{trimmed}
 use Rattle.shard.proofs.AlikeGroups.{bare, shown-alike}
 use Rattle.shard.proofs.Trimmed.{AreSoundGroups-trimmed, HasRooms-trimmed, class-trimmed, map_bare-trimmed}
 use Rattle.shard.proofs.KeptGroups.{IsKept-alike}
-use Rattle.shard.proofs.LeastLive.{IsLeast-trimmed, KnowsLeast-map}
+use Rattle.shard.proofs.LeastLive.{IsLeast-trimmed}
+use Rattle.groups.proofs.KnownLeast.{KnowsLeast-map}
+use Rattle.shard.specs.Least.{IsLeast}
 use Rattle.shard.proofs.shard.Shard.trim.Goals as goal
 
 -- only pages go
@@ -24,7 +26,7 @@ invariant_of-self g c =
     (omega (arith, c.trim_all.ensures.capacity)) (sound_now g c)
     (λ class. rw c.trim_all.ensures.items (HasRooms-trimmed class c.self.inside.groups.items (rooms_of c.self.inside.rooms class) (c.self.invariant.rooms class)))
     (λ class. omega arith)
-    (rw c.trim_all.ensures.items (KnowsLeast-map c.self.inside.groups.items c.self.inside.least.items c.self.invariant.least_known trimmed IsLeast-trimmed))
+    (rw c.trim_all.ensures.items (KnowsLeast-map IsLeast c.self.inside.groups.items c.self.inside.least.items c.self.invariant.least_known trimmed IsLeast-trimmed))
 
 pub returns-clause-trims : goal.returns-clause-trims
 returns-clause-trims g c = record { after = rw (← c.self.view_is, c.trim_all.ensures.items) refl; count_is = rw (← c.self.view_is) c.trim_all.ensures.count }

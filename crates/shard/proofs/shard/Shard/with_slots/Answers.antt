@@ -3,7 +3,8 @@ use Rattle.groups.proofs.GuestDirectory.{IsDirectory-none}
 use Rattle.groups.specs.Directory.{DirectoryState}
 use Rattle.shard.proofs.ClassesHere.{HaveRoom-none}
 use Rattle.shard.proofs.KnownHeads.{KnowsHeads-none}
-use Rattle.shard.proofs.LeastLive.{KnowsLeast-none}
+use Rattle.groups.proofs.KnownLeast.{KnowsLeast-no_bytes}
+use Rattle.shard.specs.Least.{IsLeast}
 use Rattle.shard.proofs.GuestRoom.{HasGuestRoom-none}
 use Rattle.shard.proofs.NotedGuests.{KnowsNotes-none}
 use Rattle.shard.proofs.RoomBits.{HasRooms-empty}
@@ -32,7 +33,7 @@ invariant_of-result g c = record {
     for_group = λ some. absurd (omega (arith, some));
     for_guests = λ head named. absurd cc;
   };
-  least_known = rw c.new-7.ensures.items (KnowsLeast-none _);
+  least_known = rw c.new-7.ensures.items (KnowsLeast-no_bytes IsLeast _);
   room_for_bytes = omega (arith, ap length c.new.ensures.items, c.new-7.result.ok.1);
 }
 

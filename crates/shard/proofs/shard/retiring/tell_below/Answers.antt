@@ -1,75 +1,67 @@
-use Rattle.std.proofs.Common.{◌∙◌, ◌++◌, ◌∷◌, ◌+◌, [], List, ap, arith, inl, inr, length, refl, subst, sym}
+use Rattle.std.proofs.Common.{◌≡◌, ◌+◌, [], Some, arith, length, refl, slice_get, subst, sym}
 use Rattle.std.proofs.lemmas.Option.{slice_get_read}
-use Rattle.std.proofs.lemmas.Bool.{cases_lt}
-use Rattle.groups.proofs.Lists.{there_at}
-use Rattle.shard.specs.Sparse.{live_of, told_of}
-use Rattle.shard.specs.declared.shard.retiring.LiveGroup.{LiveGroup}
-use Rattle.shard.proofs.ToldBelow.{AreFirst-telling, IsLimit, IsTelling, IsTelling-left, IsTelling-none, IsTelling-told, least_live_of, lower-seen, seen-live, seen-none, seen_at}
+use Rattle.groups.specs.Least.{HaveLeast}
+use Rattle.shard.specs.Sparse.{told_of}
+use Rattle.shard.proofs.ToldBelow.{AreFirst-telling, IsLimit, IsTelling, IsTelling-none, IsTelling-passed, IsTelling-with, seen_at}
 use Rattle.shard.proofs.shard.retiring.tell_below.Goals as goal
-use Rattle.shard.proofs.shard.retiring.tell_below.Goals.{then-live-gt0+then-live-limit+in_ok-push, else-live-gt0, else-live-gt0-via-then-live-gt0+else-live-limit, else-live-gt0-via-else-live-gt0}
+use Rattle.shard.proofs.shard.retiring.tell_below.Goals.{After-index-group, After-next_below-index}
 
 pub loop-index-init : goal.loop-index-init
-loop-index-init g c = subst (IsTelling c.args.bound c.args.most []) (sym c.new-told.ensures.items) (IsTelling-none c.args.bound c.args.most)
+loop-index-init g c = record {
+  within = omega arith;
+  known = c.requires.known;
+  len = refl;
+  telling = subst (IsTelling c.args.bound c.args.most []) (sym c.new-told.ensures.items) (IsTelling-none c.args.bound c.args.most);
+}
+
+limit_is : (g : _) (c : After-next_below-index g) → IsLimit c.args.bound c.args.most (length c.loop-index.told.items) c.limit_of-limit.result
+limit_is g c = record {
+  few = λ few. c.limit_of-limit.ensures.few (omega (arith, few, c.len.ensures));
+  many = λ many. c.limit_of-limit.ensures.many (omega (arith, many, c.len.ensures));
+}
+
+-- those up to the one that is found are left out
+telling_there : (g : _) (c : After-next_below-index g) → IsTelling c.args.bound c.args.most (seen_at c.args.groups.now.items c.next_below-index.result) c.loop-index.told.items
+telling_there g c =
+    let bytes = c.loop-index.least.items in
+    let passed : HaveLeast bytes c.limit_of-limit.result c.loop-index.index c.next_below-index.result =
+    subst (λ ns. HaveLeast ns c.limit_of-limit.result c.loop-index.index c.next_below-index.result) c.as_slice.ensures.value c.next_below-index.ensures.passed in
+    IsTelling-passed c.args.groups.now.items c.requires.ascend c.args.bound c.args.most c.loop-index.told.items c.limit_of-limit.result (limit_is g c) bytes
+    c.loop-index.invariant.known c.requires.sound c.loop-index.index c.loop-index.invariant.telling c.next_below-index.result c.next_below-index.ensures.first
+    (omega (arith, c.next_below-index.ensures.end, c.len-count.ensures))
+    (omega (arith, c.next_below-index.ensures.end, c.len-count.ensures, c.requires.bytes, c.loop-index.invariant.len, c.loop-index.least.ok.0)) passed
+
+group_here : (g : _) (c : After-index-group g) → slice_get c.args.groups.now.items c.next_below-index.result ≡ Some c.index-group.result.now
+group_here g c = slice_get_read c.args.groups.now.items _ c.next_below-index.result c.index-group.result.now refl (omega (arith, c.if-index-count.true, c.len-count.ensures)) c.index-group.ensures
+
+pub returns-in_err-tell_below_limit-clause-known : goal.returns-in_err-tell_below_limit-clause-known
+returns-in_err-tell_below_limit-clause-known g c =
+    c.note_byte.ensures.known c.args.groups.now.items (group_here g (goal.at.returns-in_err-tell_below_limit-clause-known g c).After-index-group) c.loop-index.invariant.known
+
+pub loop-index-preserved-then-index-count : goal.loop-index-preserved-then-index-count
+loop-index-preserved-then-index-count g c =
+    let here = group_here g (goal.at.loop-index-preserved-then-index-count g c).After-index-group in
+    let before = (goal.at.loop-index-preserved-then-index-count g c).After-next_below-index in
+    let index = c.next_below-index.result in
+    let told = c.loop-index.told.items in
+    record {
+      within = omega (arith, c.if-index-count.true);
+      known = c.note_byte.ensures.known c.args.groups.now.items here c.loop-index.invariant.known;
+      len = omega (arith, c.note_byte.ensures.len, c.loop-index.invariant.len);
+      telling = subst (IsTelling c.args.bound c.args.most (seen_at c.args.groups.now.items (index + 1))) (sym (c.in_ok-tell_below_limit.ensures {u = tt}))
+          (IsTelling-with c.args.groups.now.items c.requires.ascend c.args.bound c.args.most told c.limit_of-limit.result (limit_is g before) index c.index-group.result.now here
+          (telling_there g before));
+    }
 
 pub loop-index-preserved : goal.loop-index-preserved
-loop-index-preserved g c =
-    let groups = c.args.groups.now.items in
-    let bound = c.args.bound in
-    let most = c.args.most in
-    let index = c.loop-index.index in
-    let group = c.index-group.result.now in
-    let one = told_of group in
-    let seen = seen_at groups index in
-    let next = seen_at groups (index + 1) in
-    let told = c.loop-index.told.items in
-    let here = slice_get_read groups (length groups) index group refl (omega (arith, c.loop-index-test.true, c.len-index-end.ensures)) c.index-group.ensures in
-    let limit : IsLimit bound most (length told) c.limit_of-limit.result = record {
-      few = λ few. c.limit_of-limit.ensures.few (omega (arith, few, c.len.ensures));
-      many = λ many. c.limit_of-limit.ensures.many (omega (arith, many, c.len.ensures));
-    } in
-    elim c.if-live-gt0.branch [
-      | then-live-gt0+then-live-limit+in_ok-push w ↦
-          let is = ap (λ told. told.items) w.told-is ∙ (w.in_ok-push.ensures {u = tt}).items ∙ ap (λ (x : LiveGroup). told ++ x ∷ []) w.told_of.ensures in
-          subst (IsTelling bound most next) (sym is)
-          (subst (λ (list : List LiveGroup). IsTelling bound most list (told ++ one ∷ [])) (seen-live groups index group here (omega (arith, w.if-live-gt0.true, c.live-live.ensures.live)))
-          (IsTelling-told bound most seen told one c.limit_of-limit.result c.loop-index.invariant limit (omega (arith, w.if-live-limit.true, c.live-live.ensures.live))))
-      | else-live-gt0 w ↦
-          subst (IsTelling bound most next) (sym (ap (λ told. told.items) w.told-is)) (elim w.else-live-gt0.branch [
-            | else-live-gt0-via-then-live-gt0+else-live-limit v ↦
-                subst (λ (list : List LiveGroup). IsTelling bound most list told) (seen-live groups index group here (omega (arith, v.if-live-gt0.true, c.live-live.ensures.live)))
-                (IsTelling-left bound most seen told one c.limit_of-limit.result c.loop-index.invariant limit (omega (arith, v.if-live-limit.false, c.live-live.ensures.live))
-                (lower-seen groups index group here c.requires.ascend))
-            | else-live-gt0-via-else-live-gt0 v ↦
-                subst (λ (list : List LiveGroup). IsTelling bound most list told) (seen-none groups index group here (omega (arith, v.if-live-gt0.false, c.live-live.ensures.live))) c.loop-index.invariant
-          ])
-    ]
+loop-index-preserved g c = record {
+  within = c.next_below-index.ensures.end;
+  known = c.loop-index.invariant.known;
+  len = c.loop-index.invariant.len;
+  telling = telling_there g (goal.at.loop-index-preserved g c).After-next_below-index;
+}
 
--- a group that has as many by its byte is left out
-pub loop-index-preserved-then-byte-limit : goal.loop-index-preserved-then-byte-limit
-loop-index-preserved-then-byte-limit g c =
-    let groups = c.args.groups.now.items in
-    let bound = c.args.bound in
-    let most = c.args.most in
-    let index = c.loop-index.index in
-    let seen = seen_at groups index in
-    let next = seen_at groups (index + 1) in
-    let told = c.loop-index.told.items in
-    let (group, here) = there_at groups index (omega (arith, c.loop-index-test.true, c.len-index-end.ensures)) in
-    let one = told_of group in
-    let byte = slice_get_read c.args.least.now.items _ index c.index.result.now refl
-    (omega (arith, c.requires.bytes, c.loop-index-test.true, c.len-index-end.ensures, c.args.least.now.ok.0)) c.index.ensures in
-    let many = least_live_of groups c.args.least.now.items c.requires.known c.requires.sound index c.index.result.now group byte here in
-    let limit : IsLimit bound most (length told) c.limit_of-limit.result = record {
-      few = λ few. c.limit_of-limit.ensures.few (omega (arith, few, c.len.ensures));
-      many = λ many. c.limit_of-limit.ensures.many (omega (arith, many, c.len.ensures));
-    } in
-    elim (cases_lt 0 (live_of group)) [
-      | inl some ↦
-          subst (λ (list : List LiveGroup). IsTelling bound most list told) (seen-live groups index group here some)
-          (IsTelling-left bound most seen told one c.limit_of-limit.result c.loop-index.invariant limit (omega (arith, many, c.if-byte-limit.true))
-          (lower-seen groups index group here c.requires.ascend))
-      | inr none ↦ subst (λ (list : List LiveGroup). IsTelling bound most list told) (seen-none groups index group here none) c.loop-index.invariant
-    ]
-
-pub returns : goal.returns
-returns g c = AreFirst-telling c.args.bound c.args.most c.args.groups.now.items c.loop-index.index c.loop-index.told.items (omega (arith, c.loop-index-test.false, c.len-index-end.ensures)) c.loop-index.invariant
+pub returns-clause-told : goal.returns-clause-told
+returns-clause-told g c =
+    AreFirst-telling c.args.bound c.args.most c.args.groups.now.items c.loop-index.index c.loop-index.told.items (omega (arith, c.loop-index-test.false, c.len-count.ensures))
+    c.loop-index.invariant.telling

@@ -11,7 +11,9 @@ use Rattle.shard.specs.Rooms.{rooms_of}
 use Rattle.shard.specs.Sound.{IsSound}
 use Rattle.shard.specs.State.{ShardState}
 use Rattle.shard.proofs.ClassesHere.{HaveRoom-map}
-use Rattle.shard.proofs.LeastLive.{IsLeast-without_dead, KnowsLeast-map}
+use Rattle.shard.proofs.LeastLive.{IsLeast-without_dead}
+use Rattle.groups.proofs.KnownLeast.{KnowsLeast-map}
+use Rattle.shard.specs.Least.{IsLeast}
 use Rattle.shard.proofs.Forgotten.{KnowsHeads-without_dead}
 use Rattle.shard.proofs.NotedGuests.{AreNoted-forgotten}
 use Rattle.shard.proofs.Forgotten.{HasGuestRoom-without_dead, HasRooms-without_dead, IsSound-without_dead, guests_once, no_head-guest}
@@ -56,7 +58,7 @@ invariant_of-self c =
       heads_known = rw (c.forget_all.ensures.items) (KnowsHeads-without_dead c.self.inside.number c.self.inside.groups.items c.forget_all.new.heads c.forget_all.ensures.heads);
       room_for_heads = λ some. let enough = c.self.invariant.room_for_heads some in omega (arith, enough, c.forget_all.ensures.head_end);
       guests_noted = AreNoted-forgotten _ _ _ _ _ _ c.self.invariant.guests_noted _ c.forget_all.new.notes c.forget_all.ensures.noted c.forget_all.ensures.end;
-      least_known = rw c.forget_all.ensures.items (KnowsLeast-map c.self.inside.groups.items c.self.inside.least.items c.self.invariant.least_known (without_dead {Closed = _}) IsLeast-without_dead);
+      least_known = rw c.forget_all.ensures.items (KnowsLeast-map IsLeast c.self.inside.groups.items c.self.inside.least.items c.self.invariant.least_known (without_dead {Closed = _}) IsLeast-without_dead);
       room_for_bytes = omega (arith, many, c.self.invariant.room_for_bytes);
     }
 
