@@ -1,5 +1,5 @@
 -- What contracts see of a core, and the plain map that it shows.
-use Rattle.std.specs.Prelude.{◌≡◌, ℕ, ◌+◌, ◌||◌, Bool, false, List, [], ◌++◌, map, length, find, is_some, slice_get, slice_set, count_by, sum_by, if◌then◌else◌, Option, Some, None}
+use Rattle.std.specs.Prelude.{◌≡◌, ℕ, ◌+◌, ◌||◌, Bool, List, [], ◌++◌, map, length, find, is_some, slice_get, slice_set, count_by, sum_by, if◌then◌else◌, Option, Some, None}
 use Rattle.std.specs.List.{flat_map, range_with_len}
 use Rattle.span.specs.declared.id.SpanId.{SpanId}
 use Rattle.span.specs.declared.key.Key.{Key}
@@ -7,7 +7,7 @@ use Rattle.span.specs.PlainMap.{PlainMap, same_key}
 use Rattle.span.specs.State.{SpanState}
 use Rattle.shard.specs.Shown.{shown as shown_by}
 use Rattle.groups.specs.Shown.{issued_by, span_named}
-use Rattle.shard.specs.State.{ShardState}
+use Rattle.shard.specs.State.{ShardState, empty_with}
 use Rattle.groups.specs.Group.{live_in, paged_in, spans_in}
 use Rattle.pool.specs.Shown.{shown as shown_by_pool}
 use Rattle.pool.specs.State.{PoolState, new_pool, paged_groups}
@@ -28,19 +28,8 @@ pub record CoreState : Type 0 where
 
 -- a shard that has opened no span
 abbrev pub new_shard : ℕ → ℕ → ℕ → ℕ → ℕ → ShardState
-new_shard page_limit span_limit slot_limit gens number = record {
-  number = number;
-  page_limit = page_limit;
-  span_limit = span_limit;
-  slot_limit = slot_limit;
-  gens = gens;
-  opened = 0;
-  ended = false;
-  groups = [];
-  group_room = 0;
-  span_room = 0;
-  onto = None;
-}
+new_shard page_limit span_limit slot_limit gens number =
+    empty_with number page_limit span_limit slot_limit gens
 
 -- a core of new shards, one for each number, an empty pool, no plan, and empty rings, in which
 -- nothing was forgotten

@@ -1,7 +1,6 @@
 -- Bytes that tell how many slots of a group are live at the least, when groups come, go and change.
-use Rattle.std.proofs.Common.{zero, suc, ◌≡◌, ℕ, ◌+◌, ◌-◌, ◌<◌, ◌≤◌, ◌⊎◌, ◌∙◌, ◌++◌, ◌∷◌, List, [], Some, ap, arith, get_or, inl, inr, insert, length, refl, set, slice_get, subst, sym}
+use Rattle.std.proofs.Common.{suc, ◌≡◌, ℕ, ◌+◌, ◌-◌, ◌<◌, ◌≤◌, List, [], Some, arith, inl, inr, insert, length, refl, set, slice_get, subst}
 use Rattle.std.specs.Prelude.{map as map_list, remove}
-use Rattle.std.proofs.lemmas.Option.{slice_get_within}
 use Rattle.groups.specs.Least.{KnowsLeast, least_of}
 use Rattle.groups.proofs.Lists.{before-map, cases-insert, cases-set}
 use Rattle.groups.proofs.Removed.{cases-remove}

@@ -1,6 +1,5 @@
 -- For which groups a byte stays right that tells how many slots are live at the least.
-use Rattle.std.proofs.Common.{zero, suc, ◌≡◌, ℕ, ◌+◌, ◌<◌, ◌≤◌, ◌∙◌, List, [], Some, ap, arith, cond, false, inl, inr, insert, length, refl, rules, set, slice_get, subst, sym}
-use Rattle.std.specs.Prelude.{map as map_list, remove}
+use Rattle.std.proofs.Common.{zero, suc, ◌≡◌, ℕ, ◌+◌, ◌<◌, ◌≤◌, ◌∙◌, List, Some, ap, arith, cond, false, insert, length, refl, rules, set, slice_get, sym}
 use Rattle.std.specs.FinSet.{contains, len, len-insert, union}
 use Rattle.std.specs.FinSet as fin
 use Rattle.std.specs.Cmp.{nat_cmp_total}

@@ -8,7 +8,7 @@ use Rattle.shard.specs.declared.shard.retiring.LiveGroup.{LiveGroup}
 abbrev pub is_live : LiveGroup → Bool
 is_live group = nat_lt 0 group.live
 
--- what is told, with the group after the others if a key is live in it, and fewer than the limit are
+-- what is told, with the group behind if a key is live in it, and fewer than the limit are
 abbrev pub with_told : List LiveGroup → ℕ → LiveGroup → List LiveGroup
 with_told told limit one = cond (is_live one && nat_lt one.live limit) (told ++ one ∷ []) told
 

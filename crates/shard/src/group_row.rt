@@ -1,13 +1,11 @@
 // The groups of a shard by ascending place. No group moves if another comes or goes.
-ghost use Rattle.std.specs.Prelude.{◌≡◌, ◌<◌, ◌≤◌, ◌+◌, ◌++◌, ◌∷◌, ℕ, None, OnOk, Some, [], false, filter, get_or, insert, length, min, option_to_list, remove, slice_get, true, vec_capacity, vec_len};
+ghost use Rattle.std.specs.Prelude.{◌≡◌, ◌<◌, ◌≤◌, ◌+◌, ◌++◌, ◌∷◌, None, OnOk, Some, [], false, filter, get_or, insert, length, min, option_to_list, remove, slice_get, true, vec_capacity, vec_len};
 ghost use Rattle.std.specs.Borrow.{Lends, sem};
 ghost use Rattle.std.specs.List.{swap};
 ghost use Rattle.groups.specs.Group.{Ascend};
-ghost use Rattle.shard.specs.Group.{GroupState};
 ghost use Rattle.shard.specs.Leaving.{has_left, has_stayed};
 ghost use Rattle.shard.specs.Parts.{AreExchanged, AreLower, AreNotLower, IsParted};
 ghost use Rattle.shard.specs.Row.{IsOrder, in_order};
-ghost use Rattle.span.specs.Ids.{rank};
 ghost use Rattle.span.specs.declared.limits.TheConstants.{MOST_PAGES};
 
 use crate::group::Group;
@@ -114,10 +112,8 @@ impl<L: Log> GroupRow<L> {
     pub fn lower_heads(&self, id: SpanId) -> usize
         requires { Ascend self.now.items }
         ensures within { result ≤ length self.now.items }
-        ensures lower { (other : ℕ) (group : GroupState) → other < result
-            → slice_get self.now.items other ≡ Some group → rank group.head.id < rank id }
-        ensures others { (other : ℕ) (group : GroupState) → result ≤ other
-            → slice_get self.now.items other ≡ Some group → rank id ≤ rank group.head.id }
+        ensures lower { AreLower self.now.items id result }
+        ensures others { AreNotLower self.now.items id result }
     {
         lower_heads(self.groups.as_slice(), self.order.as_slice(), id)
     }

@@ -200,8 +200,8 @@ impl<L: Log> Pool<L> {
     }
 }
 
-// How many groups leave one by one. Each moves a few bytes for each group of the shard; a walk reads
-// all of them.
+// How many groups leave one by one. Each moves a few bytes for each group of the shard. A walk
+// reads all of them.
 const FEW: usize = 64;
 
 // How many spans the groups have together.

@@ -1,9 +1,8 @@
-use Rattle.std.proofs.Common.{◌≡◌, ◌∙◌, ◌<◌, ◌≤◌, List, Some, ap, arith, length, length-set, refl, set, slice_get, subst, sym}
+use Rattle.std.proofs.Common.{◌≡◌, ◌∙◌, ◌<◌, List, Some, ap, arith, length, length-set, refl, set, slice_get, subst, sym}
 use Rattle.std.specs.FinMap as table
-use Rattle.std.specs.FinSet.{len}
 use Rattle.std.proofs.lemmas.Option.{slice_get_read}
 use Rattle.span.specs.Ids.{rank}
-use Rattle.groups.specs.Group.{occupied, spans_of, with_span}
+use Rattle.groups.specs.Group.{spans_of, with_span}
 use Rattle.groups.specs.Spans.{with_free_at}
 use Rattle.groups.proofs.Lists.{get-set, same_some, set-same, there_at}
 use Rattle.pool.specs.Calls.{GivesUp}

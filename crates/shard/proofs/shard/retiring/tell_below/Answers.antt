@@ -1,7 +1,6 @@
 use Rattle.std.proofs.Common.{◌≡◌, ◌+◌, [], Some, arith, length, refl, slice_get, subst, sym}
 use Rattle.std.proofs.lemmas.Option.{slice_get_read}
 use Rattle.groups.specs.Least.{HaveLeast}
-use Rattle.shard.specs.Sparse.{told_of}
 use Rattle.shard.proofs.ToldBelow.{AreFirst-telling, IsLimit, IsTelling, IsTelling-none, IsTelling-passed, IsTelling-with, seen_at}
 use Rattle.shard.proofs.shard.retiring.tell_below.Goals as goal
 use Rattle.shard.proofs.shard.retiring.tell_below.Goals.{After-index-group, After-next_below-index}
