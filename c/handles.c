@@ -48,6 +48,8 @@ static void each_call(struct teurlaks_handle *none, struct teurlaks_key key) {
     WANT(teurlaks_retire(none, 0, 9).status == TEURLAKS_NO_CORE &&
          teurlaks_retire(none, 0, 9).count == 0);
     WANT(teurlaks_trim(none, 0).status == TEURLAKS_NO_CORE && teurlaks_trim(none, 0).count == 0);
+    WANT(teurlaks_gather(none, 0, 0, 9).status == TEURLAKS_NO_CORE &&
+         teurlaks_gather(none, 0, 0, 9).count == 0);
     WANT(teurlaks_forget(none).status == TEURLAKS_NO_CORE && teurlaks_forget(none).count == 0);
     struct teurlaks_compact_reply compacted = teurlaks_compact_within(none, 9);
     WANT(compacted.status == TEURLAKS_NO_CORE && compacted.more == 0 && compacted.pages == 0);
@@ -103,6 +105,8 @@ static void each_call_of_a_seat(struct teurlaks_share_handle *none, struct teurl
          teurlaks_seat_retire(none, 9).count == 0);
     WANT(teurlaks_seat_trim(none).status == TEURLAKS_NO_CORE &&
          teurlaks_seat_trim(none).count == 0);
+    WANT(teurlaks_seat_gather(none, 0, 9).status == TEURLAKS_NO_CORE &&
+         teurlaks_seat_gather(none, 0, 9).count == 0);
     WANT(teurlaks_seat_adopt(none).status == TEURLAKS_NO_CORE);
     struct teurlaks_walk walk = {1, 2, 3};
     WANT(teurlaks_seat_next(none, &walk).status == TEURLAKS_NO_CORE && walk.shard == 1 &&

@@ -291,14 +291,15 @@ static void little(void) {
     QUIETLY(teurlaks_get(&many, none).status == TEURLAKS_NONE);
     QUIETLY(teurlaks_free(&many, none) == TEURLAKS_NONE);
     QUIETLY(teurlaks_trim(&many, 63).status == TEURLAKS_OK);
-    QUIETLY(teurlaks_gather(&many, 63) == TEURLAKS_OK);
-    QUIETLY(teurlaks_gather(&many, 64) == TEURLAKS_CONFIG);
+    QUIETLY(teurlaks_gather(&many, 63, 0, SIZE_MAX).status == TEURLAKS_OK);
+    QUIETLY(teurlaks_gather(&many, 64, 0, 1).status == TEURLAKS_CONFIG);
     QUIETLY(teurlaks_retire(&many, 63, 1).status == TEURLAKS_OK);
     QUIETLY(teurlaks_begin(&many, 63) == TEURLAKS_RUNNING);
     WANT(teurlaks_put(&many, 0, (struct teurlaks_word){1, 2}).status == TEURLAKS_OK);
     WANT(bytes - before <= SMALL + 708);
     before = bytes;
-    WANT(teurlaks_gather(&many, 0) == TEURLAKS_OK && bytes == before);
+    WANT(teurlaks_gather(&many, 0, 0, 9).count == 1 && bytes == before);
+    WANT(teurlaks_gather(&many, 0, 1, 9).count == 0 && teurlaks_gather(&many, 0, 0, 0).count == 0);
     teurlaks_drop(&many);
 }
 

@@ -210,6 +210,12 @@ struct teurlaks_forget_reply {
     size_t count;
 };
 
+/* How many groups were looked at, where the status is TEURLAKS_OK; else 0. */
+struct teurlaks_gather_reply {
+    uint32_t status;
+    size_t count;
+};
+
 /* Of a part of a compaction: 1 where a further call has something to do, else 0, and how many pages
  * went, whatever the status is. */
 struct teurlaks_compact_reply {
@@ -383,12 +389,14 @@ struct teurlaks_trim_reply teurlaks_trim(struct teurlaks_handle *handle, uint32_
  * smaller table in the place of a larger one, which stays if there is none. */
 struct teurlaks_forget_reply teurlaks_forget(struct teurlaks_handle *handle);
 
-/* Moves each page of the shard to a block of memory that it asks for now: pages of less than 4,096
- * bytes share pages of the system, and pages.c, which hands out its lowest free block first, gives
- * back those that this empties. Call it for each shard after a compaction. No key changes.
- * TEURLAKS_CONFIG where there is no such shard; TEURLAKS_OUT_OF_MEMORY where a block is refused:
- * some pages have moved then. */
-uint32_t teurlaks_gather(struct teurlaks_handle *handle, uint32_t shard);
+/* Moves the pages of up to `most` groups of the shard, from its group `from` on, to blocks of memory
+ * that it asks for now: pages of less than 4,096 bytes share pages of the system, and pages.c, which
+ * hands out its lowest free block first, gives back those that this empties. Call it for each shard
+ * after a compaction, from 0 on. The count is how many groups these are: fewer than `most` if the
+ * shard has no more. No key changes. TEURLAKS_CONFIG where there is no such shard;
+ * TEURLAKS_OUT_OF_MEMORY where a block is refused: some pages have moved then. */
+struct teurlaks_gather_reply teurlaks_gather(struct teurlaks_handle *handle, uint32_t shard,
+                                             size_t from, size_t most);
 
 /* Moves the pool's group of lowest head that has a page to the shard. Where several causes hold, it
  * is refused for the shard if there is one of this number (TEURLAKS_ENDED, TEURLAKS_PAGES_SPENT),
@@ -616,6 +624,11 @@ struct teurlaks_retire_reply teurlaks_seat_retire(struct teurlaks_share_handle *
 
 /* As teurlaks_trim, of the seat's shard. */
 struct teurlaks_trim_reply teurlaks_seat_trim(struct teurlaks_share_handle *handle);
+
+/* As teurlaks_gather, of the seat's shard, whose lock it has meanwhile: so take few groups at a
+ * time. Groups that come or go between two calls may be passed over, or moved twice. */
+struct teurlaks_gather_reply teurlaks_seat_gather(struct teurlaks_share_handle *handle, size_t from,
+                                                  size_t most);
 
 /* As teurlaks_adopt, for the seat's shard. */
 struct teurlaks_adopt_reply teurlaks_seat_adopt(struct teurlaks_share_handle *handle);

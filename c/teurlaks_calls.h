@@ -240,8 +240,10 @@ TEURLAKS_INLINE uint32_t teurlaks_tested_compaction_give_up(struct teurlaks_hand
     return handle ? teurlaks_compaction_give_up(handle) : (uint32_t)TEURLAKS_NO_CORE;
 }
 
-TEURLAKS_INLINE uint32_t teurlaks_tested_gather(struct teurlaks_handle *handle, uint32_t shard) {
-    return handle ? teurlaks_gather(handle, shard) : (uint32_t)TEURLAKS_NO_CORE;
+TEURLAKS_INLINE struct teurlaks_gather_reply
+teurlaks_tested_gather(struct teurlaks_handle *handle, uint32_t shard, size_t from, size_t most) {
+    struct teurlaks_gather_reply none = {TEURLAKS_NO_CORE, 0};
+    return handle ? teurlaks_gather(handle, shard, from, most) : none;
 }
 
 TEURLAKS_INLINE struct teurlaks_adopt_reply teurlaks_tested_adopt(struct teurlaks_handle *handle,
@@ -461,6 +463,12 @@ teurlaks_tested_seat_trim(struct teurlaks_share_handle *handle) {
     return handle ? teurlaks_seat_trim(handle) : none;
 }
 
+TEURLAKS_INLINE struct teurlaks_gather_reply
+teurlaks_tested_seat_gather(struct teurlaks_share_handle *handle, size_t from, size_t most) {
+    struct teurlaks_gather_reply none = {TEURLAKS_NO_CORE, 0};
+    return handle ? teurlaks_seat_gather(handle, from, most) : none;
+}
+
 TEURLAKS_INLINE struct teurlaks_adopt_reply
 teurlaks_tested_seat_adopt(struct teurlaks_share_handle *handle) {
     struct teurlaks_adopt_reply none = {TEURLAKS_NO_CORE, {0, 0}};
@@ -568,6 +576,7 @@ teurlaks_tested_steward_totals(struct teurlaks_share_handle *handle) {
 #define teurlaks_seat_begin teurlaks_tested_seat_begin
 #define teurlaks_seat_retire teurlaks_tested_seat_retire
 #define teurlaks_seat_trim teurlaks_tested_seat_trim
+#define teurlaks_seat_gather teurlaks_tested_seat_gather
 #define teurlaks_seat_next teurlaks_tested_seat_next
 #define teurlaks_seat_adopt teurlaks_tested_seat_adopt
 #define teurlaks_steward_mark teurlaks_tested_steward_mark

@@ -137,8 +137,20 @@ static struct kept take_any(struct worker *me) {
     return kept;
 }
 
+/* Moves the pages of the worker's shard, a few at a time. */
+static void gather(struct worker *me) {
+    struct teurlaks_gather_reply gathered;
+    size_t from = 0;
+    do {
+        PATIENTLY(gathered, gathered.status, teurlaks_seat_gather(&me->seat, from, 4));
+        WANT(gathered.status == TEURLAKS_OK && gathered.count <= 4);
+        from += gathered.count;
+    } while (gathered.count == 4);
+}
+
 /* Leaves sparse pages to the pool, or takes what is there. */
 static void give_back(struct worker *me) {
+    gather(me);
     struct teurlaks_trim_reply trimmed;
     PATIENTLY(trimmed, trimmed.status, teurlaks_seat_trim(&me->seat));
     WANT(trimmed.status == TEURLAKS_OK);
@@ -285,8 +297,10 @@ static void end(struct teurlaks_share_handle *steward) {
         for (size_t at = 0; at < workers[i].inbox.count; at++)
             free_now(&workers[0], workers[i].inbox.kept[at].key);
     }
-    for (int i = 0; i < THREADS; i++)
+    for (int i = 0; i < THREADS; i++) {
+        WANT(teurlaks_seat_gather(&workers[i].seat, 0, SIZE_MAX).status == TEURLAKS_OK);
         WANT(teurlaks_seat_trim(&workers[i].seat).status == TEURLAKS_OK);
+    }
     WANT(totals(steward).live == 0 && totals(steward).pages == 0);
 }
 

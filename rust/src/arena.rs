@@ -210,6 +210,7 @@ impl<T> Arena<T> {
     /// - [`Refused::OutOfMemory`]: memory was refused.
     pub fn seat(&mut self) -> Result<Seat<T>, Refused> {
         let lanes = self.numbers.lanes as usize;
+        let has_small_pages = self.numbers.limits.slots < Limits::default().slots;
         let standing = self.standing()?;
         while standing.next.len() < lanes - 1 {
             let lane = standing.lane()?;
@@ -217,7 +218,8 @@ impl<T> Arena<T> {
         }
         let here = standing.lane()?;
         let lanes = Lanes::new(here, mem::take(&mut standing.next));
-        Ok(Seat::new(lanes, standing.turn.clone()))
+        let turn = standing.turn.clone();
+        Ok(Seat::new(lanes, turn, has_small_pages))
     }
 
     /// Plans folds of the pool's groups onto those of the shards, as many as can be, and opens the

@@ -1,6 +1,7 @@
 //! All shards as one value.
 
 mod compacting;
+mod gathering;
 mod lent;
 mod limits;
 mod many;
@@ -14,6 +15,7 @@ pub(crate) use limits::{ends_turn, MOST_SHARDS, SHARDS};
 pub(crate) use meshing::{certificate_text, done, marked, stepped, MOST_GROUPS};
 pub use meshing::{Marked, Stepped};
 
+use self::gathering::Gathering;
 use crate::bytes::{slots_for, MOST_WORDS};
 use crate::names::{Key, Span};
 use crate::occupancy::Occupancy;
@@ -89,6 +91,7 @@ pub struct Core {
     emptied: u64,
     // How many pages went in calls of a compaction that were refused, and were not counted yet.
     gone: usize,
+    gathering: Gathering,
 }
 
 /// Whose plan is open.
@@ -134,6 +137,7 @@ impl Core {
             ended: 0,
             emptied: 0,
             gone: 0,
+            gathering: Gathering::default(),
             stay: 0,
         })
     }

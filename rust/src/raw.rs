@@ -131,6 +131,13 @@ pub struct ForgetReply {
 
 #[repr(C)]
 #[derive(Clone, Copy)]
+pub struct GatherReply {
+    pub status: u32,
+    pub count: usize,
+}
+
+#[repr(C)]
+#[derive(Clone, Copy)]
 pub struct CompactReply {
     pub status: u32,
     pub more: u32,
@@ -280,7 +287,12 @@ extern "C" {
     pub fn teurlaks_retire(handle: *mut Handle, shard: u32, most: usize) -> RetireReply;
     pub fn teurlaks_trim(handle: *mut Handle, shard: u32) -> TrimReply;
     pub fn teurlaks_forget(handle: *mut Handle) -> ForgetReply;
-    pub fn teurlaks_gather(handle: *mut Handle, shard: u32) -> u32;
+    pub fn teurlaks_gather(
+        handle: *mut Handle,
+        shard: u32,
+        from: usize,
+        most: usize,
+    ) -> GatherReply;
     pub fn teurlaks_compact_within(handle: *mut Handle, budget: usize) -> CompactReply;
     pub fn teurlaks_compaction_step(
         handle: *mut Handle,
@@ -347,6 +359,7 @@ extern "C" {
     pub fn teurlaks_seat_begin(handle: *mut ShareHandle) -> u32;
     pub fn teurlaks_seat_retire(handle: *mut ShareHandle, most: usize) -> RetireReply;
     pub fn teurlaks_seat_trim(handle: *mut ShareHandle) -> TrimReply;
+    pub fn teurlaks_seat_gather(handle: *mut ShareHandle, from: usize, most: usize) -> GatherReply;
     pub fn teurlaks_seat_next(handle: *mut ShareHandle, walk: *mut RawWalk) -> NextReply;
     pub fn teurlaks_steward_next(handle: *mut ShareHandle, walk: *mut RawWalk) -> NextReply;
     pub fn teurlaks_seat_adopt(handle: *mut ShareHandle) -> AdoptReply;

@@ -247,8 +247,8 @@ fn exported() -> Declarations {
             &mut declarations,
         );
     }
-    assert_eq!(declarations.functions.len(), 70);
-    assert_eq!(declarations.structs.len(), 28);
+    assert_eq!(declarations.functions.len(), 72);
+    assert_eq!(declarations.structs.len(), 29);
     for name in READING {
         let (params, _) = declarations.functions.get_mut(name).expect("an export");
         params[0].1 = "*const Handle".into();
@@ -258,12 +258,13 @@ fn exported() -> Declarations {
 
 /// The calls that only read a core. The exports of Rattle declare `&mut Handle` for each; Rust and
 /// C declare it as a pointer through which nothing is written.
-const READING: [&str; 7] = [
+const READING: [&str; 8] = [
     "teurlaks_contains",
     "teurlaks_get",
     "teurlaks_get_words",
     "teurlaks_get_many",
     "teurlaks_next",
+    "teurlaks_next_in_span",
     "teurlaks_totals",
     "teurlaks_certificate",
 ];
@@ -280,15 +281,16 @@ const BY_NUMBERS: [&str; 7] = [
 ];
 
 /// What Rust does not declare, since it never asks: it makes each core and arena by the call with a
-/// limit of slots, in a handle without one; and it knows which arena a seat is of, where C compares
-/// their places.
-const OF_C_ALONE: [&str; 10] = [
+/// limit of slots, in a handle without one; it walks no single span of a core; and it knows which
+/// arena a seat is of, where C compares their places.
+const OF_C_ALONE: [&str; 11] = [
     "teurlaks_new",
     "teurlaks_new_with_spans",
     "teurlaks_arena_open_with_spans",
     "teurlaks_arena_open_recorded_with_spans",
     "teurlaks_arena_open",
     "teurlaks_arena_open_recorded",
+    "teurlaks_next_in_span",
     "teurlaks_seat_arena",
     "teurlaks_steward_arena",
     "Place",

@@ -162,3 +162,71 @@ fn small_pages_are_gathered() -> Result<(), Refused> {
     }
     Ok(())
 }
+
+/// The same in parts, of what threads share: every key has its value after each part.
+#[test]
+fn small_pages_are_gathered_in_parts() -> Result<(), Refused> {
+    let is_kept = |n: usize| n % 9 == 0;
+    for (slots, budget) in [(64, 1), (128, 7), (64, usize::MAX)] {
+        let mut store = Store::<u64>::with_limits(of_slots(slots))?;
+        let shared = SharedStore::<u64>::with_limits(of_slots(slots))?;
+        let keys: Vec<(Key, Key)> = (0..20_000)
+            .map(|n| Ok((store.insert(n)?, shared.insert(n)?)))
+            .collect::<Result<_, Refused>>()?;
+        for (_, &(key, of_shared)) in keys.iter().enumerate().filter(|(n, _)| !is_kept(*n)) {
+            assert!(store.free(key) && shared.remove(of_shared).is_some());
+        }
+        let before = (store.pages(), shared.pages());
+        let (mut gone, mut gone_of_shared) = (0, 0);
+        for number in 0.. {
+            let done = store.compact_within(budget)?;
+            let done_of_shared = shared.compact_within(budget)?;
+            gone += done.pages;
+            gone_of_shared += done_of_shared.pages;
+            let n = number * 7919 % keys.len();
+            let value = is_kept(n).then_some(n as u64);
+            assert_eq!((store.get(keys[n].0), shared.get(keys[n].1)), (value, value));
+            if !done.more && !done_of_shared.more {
+                break;
+            }
+        }
+        assert!(gone > before.0 / 2 && gone_of_shared > before.1 / 2);
+        assert_eq!((store.pages(), shared.pages()), (before.0 - gone, before.1 - gone_of_shared));
+        for (n, &(key, of_shared)) in keys.iter().enumerate() {
+            let value = is_kept(n).then_some(n as u64);
+            assert_eq!((store.get(key), shared.get(of_shared)), (value, value));
+        }
+    }
+    Ok(())
+}
+
+/// A seat gathers its shards, and when a compaction is over each seat that helps does.
+#[test]
+fn seats_gather_small_pages() -> Result<(), Refused> {
+    let mut arena = Arena::<u64>::with_lanes(of_slots(64), 16, 2)?;
+    let mut seats = [arena.seat()?, arena.seat()?];
+    let keys: Vec<Key> = (0..20_000)
+        .map(|n| seats[n as usize % 2].insert(n))
+        .collect::<Result<_, _>>()?;
+    let is_kept = |n: usize| n % 9 == 0;
+    for (_, &key) in keys.iter().enumerate().filter(|(n, _)| !is_kept(*n)) {
+        assert!(seats[0].free(key));
+    }
+    seats[0].gather()?;
+    seats[1].session().gather()?;
+    let before = arena.totals().pages;
+    arena.ask_to_retire(100);
+    for seat in &mut seats {
+        assert_eq!(seat.help_compact(), Ok(100));
+    }
+    while arena.compact_within(16)?.more {}
+    arena.ask_to_retire(0);
+    for seat in &mut seats {
+        assert_eq!(seat.help_compact(), Ok(0));
+    }
+    assert!(arena.totals().pages < before - 50);
+    for (n, &key) in keys.iter().enumerate() {
+        assert_eq!(seats[1].get(key), is_kept(n).then_some(n as u64));
+    }
+    Ok(())
+}

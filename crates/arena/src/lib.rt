@@ -84,6 +84,7 @@ mod forgetting;
 mod forgotten;
 mod freeing;
 mod gate;
+mod gathering;
 mod hints;
 mod key_calls;
 pub mod lent_calls;

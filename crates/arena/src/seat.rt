@@ -16,6 +16,7 @@ ghost use Rattle.span.specs.declared.limits.TheConstants.{MOST_SHARDS};
 use crate::arena::Arena;
 use crate::calling::CallsKeys;
 use crate::gate::Gate;
+use crate::gathering::gather_in;
 use crate::key_calls::{Free, Get, Set};
 use crate::lent_calls::{Issued, Looked, Outcome};
 use crate::outboxes::{MOST_DELAY, Outboxes};
@@ -52,7 +53,7 @@ const MOST_WORDS: usize = 16;
 /// A key that it leaves to another thread goes in a block with others, and is on its ring, where
 /// that thread sees it, at the latest when the seat calls `tend`, `hand_over`, `end` or
 /// `next_section`, is dropped, or makes the [`MOST_DELAY`]th further call: each `put`, `get`,
-/// `set`, `free`, `free_later`, `retire`, `trim` and `adopt` is one.
+/// `set`, `free`, `free_later`, `retire`, `trim`, `gather` and `adopt` is one.
 #[derive(Drop)]
 pub struct Seat {
     worker: u32,
@@ -410,6 +411,31 @@ impl Seat {
         count
     }
 
+    /// Moves the pages of up to `most` groups of the worker's shard, from its group `from` on, to
+    /// blocks that it asks for now, under the shard's lock, and says how many groups these are:
+    /// fewer than `most` if the shard has no more. No key changes. A source of pages that hands out
+    /// its lowest free block first can so empty its upper end. In parts of few groups the lock is
+    /// held for a short time only; groups that come or go between two parts may be passed over, or
+    /// moved twice.
+    ///
+    /// # Errors
+    ///
+    /// `AllocError` if a block is refused. Some pages have moved then.
+    pub fn gather<G: Gate, L: Log, R: Wait>(
+        &mut self,
+        rt: &R,
+        arena: &Arena<G, L>,
+        from: usize,
+        most: usize,
+    ) -> Result<usize, AllocError>
+        requires { self.old.limits ≡ arena.now.limits }
+        ensures at_most { IfOk result (λ count. count ≤ most) }
+        ensures seat { CountsCall self.old self.new }
+    {
+        let Ok(gathered) = self.gather_within(&Waits { rt }, arena, from, most);
+        gathered
+    }
+
     /// The worker's shard adopts the pool's group of lowest head that has a page, under the pool's
     /// lock and the shard's, and gives its head.
     ///
@@ -583,6 +609,26 @@ impl Seat {
         arena.gate.inside(number);
         self.count_call();
         Ok(shard.trim())
+    }
+
+    // Moves the pages of up to that many groups of the worker's shard.
+    fn gather_within<G: Gate, L: Log, P: Patience>(
+        &mut self,
+        patience: &P,
+        arena: &Arena<G, L>,
+        from: usize,
+        most: usize,
+    ) -> Result<Result<usize, AllocError>, P::Busy>
+        requires { self.old.limits ≡ arena.now.limits }
+        ensures at_most { IfOk result (λ gathered. IfOk gathered (λ count. count ≤ most)) }
+        ensures seat { OnOk result (CountsCall self.old self.new) }
+        ensures busy { OnErr result (self.new ≡ self.old) }
+    {
+        let number = self.worker;
+        let mut shard = patience.lock(&arena.shards[number as usize])?;
+        arena.gate.inside(number);
+        self.count_call();
+        Ok(gather_in(&mut *shard, from, most))
     }
 
     // The worker's shard adopts a group of the pool.

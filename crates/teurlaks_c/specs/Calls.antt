@@ -1,9 +1,10 @@
 -- What the calls do.
 use Rattle.std.specs.Prelude.{◌≡◌, ◌⊎◌, ◌<◌, ◌≤◌, ◌++◌, ◌∷◌, [], ℕ, List, Option, Some, None, MatchOption, MatchResult, Result, Ok, Err, true, false, drop, length}
+use Rattle.span.specs.declared.id.SpanId.{SpanId}
 use Rattle.span.specs.declared.key.Key.{Key}
 use Rattle.span.specs.Classes.{IsObject}
 use Rattle.span.specs.Log.{Value}
-use Rattle.span.specs.Order.{HasNoneBeyond, IsNextLive}
+use Rattle.span.specs.Order.{HasNoneBeyond, HasNoneFrom, IsFirstFrom, IsNextLive}
 use Rattle.certificate.specs.declared.certificate.Certificate.{Certificate}
 use Rattle.certificate.specs.Text.{IsWritable, certificate_text}
 use Rattle.fold.specs.declared.step.Step.TheVariants.{Folded, Emptied}
@@ -14,6 +15,7 @@ use Rattle.arena_core.specs.declared.reply.Reply.TheVariants.{Issued, Replaced, 
 use Rattle.arena_core.specs.declared.reply.Refusal.{Refusal}
 use Rattle.arena_core.specs.declared.reply.Refusal.TheVariants.{Config, OutOfMemory, PlanOpen}
 use Rattle.arena_core.specs.Forgets.{Forgets as ForgetsIn}
+use Rattle.arena_core.specs.Gathers.{CannotGather, Gathers as GathersIn}
 use Rattle.arena_core.specs.Plain.{ErasedStep}
 use Rattle.arena_core.specs.Sound.{IsSound}
 use Rattle.arena_core.specs.State.{CoreState, HasKeys, new_core, pages, shown}
@@ -23,6 +25,7 @@ use Rattle.compaction.specs.Progress.{fresh}
 use Rattle.teurlaks_c.specs.declared.held.Held.{Held}
 use Rattle.teurlaks_c.specs.declared.held.Witness.{Witness}
 use Rattle.teurlaks_c.specs.declared.replies.RawKey.{RawKey}
+use Rattle.teurlaks_c.specs.declared.replies.RawSpan.{RawSpan}
 use Rattle.teurlaks_c.specs.declared.replies.RawWord.{RawWord}
 use Rattle.teurlaks_c.specs.declared.replies.PutReply.{PutReply}
 use Rattle.teurlaks_c.specs.declared.replies.GetReply.{GetReply}
@@ -31,12 +34,13 @@ use Rattle.teurlaks_c.specs.declared.replies.NextReply.{NextReply}
 use Rattle.teurlaks_c.specs.declared.replies.RetireReply.{RetireReply}
 use Rattle.teurlaks_c.specs.declared.replies.TrimReply.{TrimReply}
 use Rattle.teurlaks_c.specs.declared.replies.ForgetReply.{ForgetReply}
+use Rattle.teurlaks_c.specs.declared.replies.GatherReply.{GatherReply}
 use Rattle.teurlaks_c.specs.declared.replies.AdoptReply.{AdoptReply}
 use Rattle.teurlaks_c.specs.declared.replies.MarkReply.{MarkReply}
 use Rattle.teurlaks_c.specs.declared.replies.StepReply.{StepReply}
 use Rattle.teurlaks_c.specs.declared.replies.CertificateReply.{CertificateReply}
 use Rattle.teurlaks_c.specs.declared.replies.TotalsReply.{TotalsReply}
-use Rattle.teurlaks_c.specs.Keys.{IsKeyOf, IsNoKey, IsIdOf}
+use Rattle.teurlaks_c.specs.Keys.{IsKeyOf, IsNoKey, IsIdOf, IsNoId}
 use Rattle.teurlaks_c.specs.Status.{done, none, out_of_memory, config, emptied, no_pair_left, no_plan, too_small, refusal_status}
 use Rattle.teurlaks_c.specs.Words.{word_of, words_of}
 
@@ -152,6 +156,22 @@ abbrev pub Nexts : Option Held → RawKey → NextReply → Option Held → Type
 Nexts old raw says new = (after found : Option Key) × MatchOption after (IsNoKey raw) (IsKeyOf raw)
     × NextsKey old after found new × SaysNext says found
 
+-- the first live key of the span at a slot from this one on, of the map that the core shows; nothing
+-- changes
+pub record NextsKeyIn (old : Option Held) (id : SpanId) (from : ℕ) (found : Option Key)
+  (new : Option Held) : Type 0 where
+  pub held : Held
+  pub is : old ≡ Some held
+  pub same : new ≡ old
+  pub first : MatchOption found (HasNoneFrom (shown held.core) id from)
+      (IsFirstFrom (shown held.core) id from)
+
+-- the same of the span with these numbers; or no span has them
+abbrev pub NextsInSpan : Option Held → RawSpan → ℕ → NextReply → Option Held → Type 0
+NextsInSpan old raw from says new = (IsNoId raw × (new ≡ old) × (says.status ≡ none))
+    ⊎ ((id : SpanId) × (found : Option Key) × IsIdOf raw id × NextsKeyIn old id from found new
+    × SaysNext says found)
+
 -- what C reads of the reply to a set; no other reply comes
 abbrev pub SaysSet : ℕ → Reply → Type 0
 SaysSet says (Replaced true) = says ≡ done
@@ -254,23 +274,22 @@ pub record Forgets (old : Option Held) (says : ForgetReply) (new : Option Held) 
   pub compaction : after.compaction ≡ before.compaction
   pub says_is : SaysForgotten says answer
 
--- what C reads of an answer that is no more than that it is done
-abbrev pub SaysDone : {T : Type 0} → ℕ → Result T Refusal → Type 0
-SaysDone says answer = MatchResult answer (λ nothing. says ≡ done)
-    (λ refusal. says ≡ refusal_status refusal)
+-- what C reads of the answer to a gathering
+abbrev pub SaysGathered : GatherReply → Result ℕ Refusal → Type 0
+SaysGathered says (Ok count) = (says.status ≡ done) × (says.count ≡ count)
+SaysGathered says (Err refusal) = (says.status ≡ refusal_status refusal) × (says.count ≡ 0)
 
--- what C reads of a gathering of the shard, of so many: that it is done or that memory was refused,
--- or that there is no such shard
-pub record SaysGathered (shards shard says : ℕ) : Type 0 where
-  pub there : shard < shards → (says ≡ done) ⊎ (says ≡ refusal_status OutOfMemory)
-  pub none : shards ≤ shard → says ≡ refusal_status Config
-
--- the pages of the shard have moved, or not; nothing else has changed
-pub record Gathers (old : Option Held) (shard says : ℕ) (new : Option Held) : Type 0 where
+-- the pages of the shard's groups from this one on, up to so many, have moved, or some of them, or
+-- none; nothing else has changed
+pub record Gathers (old : Option Held) (shard from most : ℕ) (says : GatherReply)
+  (new : Option Held) : Type 0 where
   pub before : Held
+  pub answer : Result ℕ Refusal
   pub before_is : old ≡ Some before
   pub same : new ≡ old
-  pub says_is : SaysGathered before.core.limits.shards shard says
+  pub exact : MatchResult answer (GathersIn before.core.shards shard from most)
+      (CannotGather before.core.limits.shards shard)
+  pub says_is : SaysGathered says answer
 
 -- what C reads of the reply to an adoption
 abbrev pub SaysAdopted : AdoptReply → Reply → Type 0

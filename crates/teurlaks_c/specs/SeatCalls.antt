@@ -19,6 +19,7 @@ use Rattle.teurlaks_c.specs.declared.replies.PutReply.{PutReply}
 use Rattle.teurlaks_c.specs.declared.replies.WordsReply.{WordsReply}
 use Rattle.teurlaks_c.specs.declared.replies.RetireReply.{RetireReply}
 use Rattle.teurlaks_c.specs.declared.replies.TrimReply.{TrimReply}
+use Rattle.teurlaks_c.specs.declared.replies.GatherReply.{GatherReply}
 use Rattle.teurlaks_c.specs.declared.replies.AdoptReply.{AdoptReply}
 use Rattle.teurlaks_c.specs.declared.replies.TendReply.{TendReply}
 use Rattle.teurlaks_c.specs.declared.replies.RawKey.{RawKey}
@@ -207,6 +208,11 @@ frees_kept seat answer = freed_kept seat (free_told seat answer)
 -- at most that many groups go
 abbrev pub Retires : ℕ → SeatState → Result (Result ℕ ReceiveError) Busy → SeatState → Type 0
 Retires most before answer after = IfOk answer (λ retired. IfOk retired (λ count. count ≤ most))
+    × IsOneCall before answer after
+
+-- as many groups as it says were gathered, up to so many, or a block was refused
+abbrev pub Gathers : ℕ → SeatState → Result (Result ℕ AllocError) Busy → SeatState → Type 0
+Gathers most before answer after = IfOk answer (λ gathered. IfOk gathered (λ count. count ≤ most))
     × IsOneCall before answer after
 
 -- the shard ends, and what the seat has left to others is handed over
@@ -407,6 +413,13 @@ abbrev pub SaysTrimmed : TrimReply → Option (Result ℕ Busy) → Type 0
 SaysTrimmed says None = (says.status ≡ no_core) × (says.count ≡ 0)
 SaysTrimmed says (Some (Err b)) = (says.status ≡ busy) × (says.count ≡ 0)
 SaysTrimmed says (Some (Ok count)) = (says.status ≡ done) × (says.count ≡ count)
+
+-- what C reads of a gathering
+abbrev pub SaysGathered : GatherReply → Option (Result (Result ℕ AllocError) Busy) → Type 0
+SaysGathered says None = (says.status ≡ no_core) × (says.count ≡ 0)
+SaysGathered says (Some (Err b)) = (says.status ≡ busy) × (says.count ≡ 0)
+SaysGathered says (Some (Ok (Ok count))) = (says.status ≡ done) × (says.count ≡ count)
+SaysGathered says (Some (Ok (Err refused))) = (says.status ≡ out_of_memory) × (says.count ≡ 0)
 
 -- what C reads of an adoption
 abbrev pub SaysAdopted : AdoptReply → Option (Result (Result SpanId AdoptError) Busy) → Type 0

@@ -3,15 +3,17 @@ ghost use Rattle.std.specs.Prelude.{◌≡◌, ◌↔◌, ◌⊎◌, ◌∷◌, 
 ghost use Rattle.span.specs.Classes.{IsObject, width_of};
 ghost use Rattle.marks.specs.Numbers.{AreWithin, limits_of};
 ghost use Rattle.teurlaks_c.specs.Numbers.{limits_given, limits_with};
-ghost use Rattle.teurlaks_c.specs.Calls.{Counts, Frees, FreesKey, Gets, GetsKey, GetsWords, HasNew, Nexts, Puts, PutsWords, SaysGot, SaysNext, SaysWords, Sets, SetsKey, SetsWords};
+ghost use Rattle.teurlaks_c.specs.Calls.{Counts, Frees, FreesKey, Gets, GetsKey, GetsWords, HasNew, Nexts, NextsInSpan, Puts, PutsWords, SaysGot, SaysNext, SaysWords, Sets, SetsKey, SetsWords};
 ghost use Rattle.teurlaks_c.specs.Words.{word_of, words_of};
 ghost use Rattle.teurlaks_c.specs.Status.{config, has_core, no_core, out_of_memory};
 
 use crate::handle::Handle;
 use crate::held::Held;
-use crate::keys::{key_of, raw_of};
+use crate::keys::{key_of, raw_of, span_of};
 use crate::limits::limits_for;
-use crate::replies::{GetReply, NextReply, PutReply, RawKey, RawWord, TotalsReply, WordsReply};
+use crate::replies::{
+    GetReply, NextReply, PutReply, RawKey, RawSpan, RawWord, TotalsReply, WordsReply,
+};
 use crate::status::{CONFIG, HAS_CORE, NO_CORE, NONE, OK, OUT_OF_MEMORY, TOO_SMALL, status_of};
 use crate::words::{class_for, join_all, raw_word, value_of, write_words};
 use arena_core::Core;
@@ -278,6 +280,31 @@ pub extern "C" fn teurlaks_next(handle: &mut Handle, after: RawKey) -> NextReply
         };
     };
     next_reply(held.core.next_live(key_of(after)))
+}
+
+/// The first live key of the span at a slot from this one on, wherever the span is, as
+/// [`Core::first_in_span`] answers it. `NONE` says that no such key is live, as of numbers that no
+/// span has. Nothing changes.
+#[unsafe(no_mangle)]
+pub extern "C" fn teurlaks_next_in_span(
+    handle: &mut Handle,
+    span: RawSpan,
+    slot: u32,
+) -> NextReply
+    ensures live { IsSome handle.old.held
+        → NextsInSpan handle.old.held span slot result handle.new.held }
+    ensures none { handle.old.held ≡ None → (result.status ≡ no_core) × (handle.new.held ≡ None) }
+{
+    let Some(held) = handle.held() else {
+        return NextReply {
+            status: NO_CORE,
+            key: no_key(),
+        };
+    };
+    let Some(id) = span_of(span) else {
+        return next_reply(None);
+    };
+    next_reply(held.core.first_in_span(id, slot))
 }
 
 /// How many pages there are, and how many keys are live. Nothing changes.

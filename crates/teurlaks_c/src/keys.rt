@@ -1,6 +1,6 @@
 // Keys and spans as C has them.
 ghost use Rattle.std.specs.Prelude.{◌≡◌, MatchOption};
-ghost use Rattle.teurlaks_c.specs.Keys.{IsKeyOf, IsNoKey, IsIdOf};
+ghost use Rattle.teurlaks_c.specs.Keys.{IsKeyOf, IsNoKey, IsIdOf, IsNoId};
 
 use crate::replies::{RawKey, RawSpan};
 use span::names::{Key, SpanId};
@@ -45,6 +45,14 @@ pub(crate) fn raw_of(key: Key) -> RawKey
         slot,
         reserved: 0,
     }
+}
+
+/// The span of these numbers, or `None` where no span has them.
+pub(crate) fn span_of(raw: RawSpan) -> Option<SpanId>
+    ensures { MatchOption result (IsNoId raw) (IsIdOf raw) }
+{
+    let RawSpan { shard, serial } = raw;
+    SpanId::new(shard, serial)
 }
 
 /// The numbers of the span.

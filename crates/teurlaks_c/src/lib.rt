@@ -81,8 +81,8 @@ mod words;
 
 pub use calls::{
     teurlaks_drop, teurlaks_free, teurlaks_get, teurlaks_get_words, teurlaks_new,
-    teurlaks_new_with_slots, teurlaks_new_with_spans, teurlaks_next, teurlaks_put,
-    teurlaks_put_words, teurlaks_set, teurlaks_set_words, teurlaks_totals,
+    teurlaks_new_with_slots, teurlaks_new_with_spans, teurlaks_next, teurlaks_next_in_span,
+    teurlaks_put, teurlaks_put_words, teurlaks_set, teurlaks_set_words, teurlaks_totals,
 };
 pub use compacting::{
     teurlaks_compact_within, teurlaks_compaction_give_up, teurlaks_compaction_step,
@@ -102,9 +102,9 @@ pub use recorded_stewards::{
 };
 pub use seats::{
     teurlaks_seat_adopt, teurlaks_seat_begin, teurlaks_seat_end, teurlaks_seat_free,
-    teurlaks_seat_free_later, teurlaks_seat_get_words, teurlaks_seat_hand_over,
-    teurlaks_seat_put_words, teurlaks_seat_retire, teurlaks_seat_set_words, teurlaks_seat_tend,
-    teurlaks_seat_trim,
+    teurlaks_seat_free_later, teurlaks_seat_gather, teurlaks_seat_get_words,
+    teurlaks_seat_hand_over, teurlaks_seat_put_words, teurlaks_seat_retire,
+    teurlaks_seat_set_words, teurlaks_seat_tend, teurlaks_seat_trim,
 };
 pub use sessions::{teurlaks_seat_pause, teurlaks_seat_session};
 pub use stewards::{

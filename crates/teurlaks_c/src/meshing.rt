@@ -5,7 +5,7 @@ ghost use Rattle.arena_core.specs.Sound.{IsSound};
 ghost use Rattle.arena_core.specs.Step.{CoreStep};
 ghost use Rattle.arena_core.specs.declared.reply.Reply.TheVariants as reply;
 ghost use Rattle.arena_core.specs.declared.event.Event.TheVariants as event;
-ghost use Rattle.teurlaks_c.specs.Calls.{Adopts, Begins, Closes, CountsOf, Ends, Forgets, Gathers, IsOfMark, Keeps, Marks, Retires, SaysDone, SaysForgotten, SaysMarked, Steps, TakesStep, Tells, Trims, Writes};
+ghost use Rattle.teurlaks_c.specs.Calls.{Adopts, Begins, Closes, CountsOf, Ends, Forgets, Gathers, IsOfMark, Keeps, Marks, Retires, SaysForgotten, SaysGathered, SaysMarked, Steps, TakesStep, Tells, Trims, Writes};
 ghost use Rattle.teurlaks_c.specs.Keys.{IsIdOf};
 ghost use Rattle.teurlaks_c.specs.Status.{no_core};
 
@@ -13,8 +13,8 @@ use crate::handle::Handle;
 use crate::held::{Held, Witness};
 use crate::keys::raw_span;
 use crate::replies::{
-    AdoptReply, CertificateReply, ForgetReply, MarkReply, RawSpan, RetireReply, StepReply,
-    TrimReply,
+    AdoptReply, CertificateReply, ForgetReply, GatherReply, MarkReply, RawSpan, RetireReply,
+    StepReply, TrimReply,
 };
 use crate::status::{
     EMPTIED, NO_CORE, NO_PAIR_LEFT, NO_PLAN, NONE, OK, OUT_OF_MEMORY, TOO_SMALL, status_of,
@@ -134,20 +134,31 @@ pub extern "C" fn teurlaks_forget(handle: &mut Handle) -> ForgetReply
     forgotten_reply(held.core.forget())
 }
 
-/// Moves each page of the shard to a block that it asks for now, and changes nothing else. Pages of
-/// fewer than 256 words share a page of the system; if the source of memory hands out its lowest
-/// free block first, this brings them together, so that other pages of the system go back. Refused
-/// with `CONFIG` exactly if there is no such shard, and with `OUT_OF_MEMORY` if a block is refused:
-/// some pages have moved then.
+/// Moves the pages of up to `most` groups of the shard, from its group `from` on, to blocks that it
+/// asks for now, and changes nothing else. The count is how many groups these are: fewer than
+/// `most` if the shard has no more. Pages of fewer than 256 words share a page of the system; if
+/// the source of memory hands out its lowest free block first, this brings them together, so that
+/// other pages of the system go back. Refused with `CONFIG` exactly if there is no such shard, and
+/// with `OUT_OF_MEMORY` if a block is refused: some pages have moved then.
 #[unsafe(no_mangle)]
-pub extern "C" fn teurlaks_gather(handle: &mut Handle, shard: u32) -> u32
-    ensures live { IsSome handle.old.held → Gathers handle.old.held shard result handle.new.held }
-    ensures none { handle.old.held ≡ None → (result ≡ no_core) × (handle.new.held ≡ None) }
+pub extern "C" fn teurlaks_gather(
+    handle: &mut Handle,
+    shard: u32,
+    from: usize,
+    most: usize,
+) -> GatherReply
+    ensures live { IsSome handle.old.held
+        → Gathers handle.old.held shard from most result handle.new.held }
+    ensures none { handle.old.held ≡ None → (result.status ≡ no_core) × (result.count ≡ 0)
+        × (handle.new.held ≡ None) }
 {
     let Some(held) = handle.held() else {
-        return NO_CORE;
+        return GatherReply {
+            status: NO_CORE,
+            count: 0,
+        };
     };
-    gathered_status(held.core.gather(shard))
+    gathered_reply(held.core.gather(shard, from, most))
 }
 
 /// Moves the pool's group of lowest head that has a page to the shard, and answers its head.
@@ -282,12 +293,15 @@ pub extern "C" fn teurlaks_certificate(
 }
 
 // What C reads of a gathering.
-fn gathered_status(answer: Result<(), Refusal>) -> u32
-    ensures { SaysDone result answer }
+fn gathered_reply(answer: Result<usize, Refusal>) -> GatherReply
+    ensures { SaysGathered result answer }
 {
     match answer {
-        Ok(()) => OK,
-        Err(refusal) => status_of(refusal),
+        Ok(count) => GatherReply { status: OK, count },
+        Err(refusal) => GatherReply {
+            status: status_of(refusal),
+            count: 0,
+        },
     }
 }
 

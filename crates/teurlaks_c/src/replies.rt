@@ -112,6 +112,14 @@ pub struct ForgetReply {
     pub count: usize,
 }
 
+/// What a gathering answers: how many groups it looked at where the status is `OK`, else 0.
+#[repr(C)]
+#[derive(Clone, Copy)]
+pub struct GatherReply {
+    pub status: u32,
+    pub count: usize,
+}
+
 /// What a part of a compaction answers: whether a further call has something to do (1 or 0), and
 /// how many pages went, which is told whatever the status is.
 #[repr(C)]

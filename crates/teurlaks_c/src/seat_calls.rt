@@ -3,7 +3,7 @@ ghost use Rattle.std.specs.Prelude.{◌≡◌, Some, length};
 ghost use Rattle.arena.specs.Seats.{SeatState};
 ghost use Rattle.span.specs.Classes.{IsObject, width_of};
 ghost use Rattle.teurlaks_c.specs.SessionCalls.{AtPaused, HasSession};
-ghost use Rattle.teurlaks_c.specs.SeatCalls.{AsksPaused, Ends, Frees, FreesLater, Gets, HandsOver, IsOneCall, PutsWithoutReceipt, Retires, SaysGot, SaysLooked, Sets, Stays, Tends, free_told, set_told};
+ghost use Rattle.teurlaks_c.specs.SeatCalls.{AsksPaused, Ends, Frees, FreesLater, Gathers, Gets, HandsOver, IsOneCall, PutsWithoutReceipt, Retires, SaysGot, SaysLooked, Sets, Stays, Tends, free_told, set_told};
 
 use crate::recorded::RecordedSeat;
 use crate::replies::{RawWord, WordsReply};
@@ -275,6 +275,27 @@ impl SeatCall for Trim {
 
     fn ask<L: Log>(&self, seat: &mut Seat, arena: &Arena<NoGate, L>) -> Result<usize, Busy> {
         seat.try_trim(arena)
+    }
+}
+
+/// A gathering of up to that many groups of the seat's shard.
+#[derive(Drop)]
+pub(crate) struct Gather {
+    pub(crate) from: usize,
+    pub(crate) most: usize,
+}
+
+impl SeatCall for Gather {
+    type Answer = Result<Result<usize, AllocError>, Busy>;
+
+    ghost does = { λ call. Gathers call.most };
+
+    fn ask<L: Log>(
+        &self,
+        seat: &mut Seat,
+        arena: &Arena<NoGate, L>,
+    ) -> Result<Result<usize, AllocError>, Busy> {
+        seat.try_gather(arena, self.from, self.most)
     }
 }
 

@@ -1,7 +1,7 @@
 // The calls of a seat, for the thread that has its handle.
 ghost use Rattle.std.specs.Prelude.{◌≡◌, ◌∷◌, ◌≤◌, [], length};
 ghost use Rattle.span.specs.Classes.{IsObject, width_of};
-ghost use Rattle.teurlaks_c.specs.SeatCalls.{AsksEither, AsksNothing, AsksPaused, AsksTend, Ends, FreesBy, FreesKey, GetsWords, HandsOver, IsOneCall, LeavesKey, PutsBy, PutsWords, Retires, SaysAdopted, SaysBegun, SaysEnded, SaysHandedOver, SaysRetired, SaysTended, SaysTrimmed, SetsBy, SetsWords};
+ghost use Rattle.teurlaks_c.specs.SeatCalls.{AsksEither, AsksNothing, AsksPaused, AsksTend, Ends, FreesBy, FreesKey, Gathers, GetsWords, HandsOver, IsOneCall, LeavesKey, PutsBy, PutsWords, Retires, SaysAdopted, SaysBegun, SaysEnded, SaysGathered, SaysHandedOver, SaysRetired, SaysTended, SaysTrimmed, SetsBy, SetsWords};
 ghost use Rattle.teurlaks_c.specs.Recorded.{Answers};
 ghost use Rattle.teurlaks_c.specs.SessionCalls.{AtHeldSeat};
 ghost use Rattle.teurlaks_c.specs.Status.{adopt_status, receive_status};
@@ -11,10 +11,12 @@ use crate::keys::{key_of, raw_span};
 use crate::meshing::no_span;
 use crate::recorded_calls::{tell_at_seat, tend_at_seat};
 use crate::replies::{
-    AdoptReply, PutReply, RawKey, RawWord, RetireReply, TendReply, TrimReply, WordsReply,
+    AdoptReply, GatherReply, PutReply, RawKey, RawWord, RetireReply, TendReply, TrimReply,
+    WordsReply,
 };
 use crate::seat_calls::{
-    Adopt, Begin, End, Free, FreeLater, HandOver, Put, Retire, Set, Stay, Trim, at_seat, not_looked,
+    Adopt, Begin, End, Free, FreeLater, Gather, HandOver, Put, Retire, Set, Stay, Trim, at_seat,
+    not_looked,
 };
 use crate::session_calls::{at_seat_or_session, look_up_at_seat, not_put};
 use crate::share_handle::ShareHandle;
@@ -145,6 +147,23 @@ pub extern "C" fn teurlaks_seat_trim(alloc: Global, handle: &mut ShareHandle) ->
         × SaysTrimmed result answer }
 {
     trimmed_reply(at_seat(alloc, handle, &Trim))
+}
+
+/// Moves the pages of up to `most` groups of the seat's shard, from its group `from` on, to blocks
+/// that it asks for now, and changes nothing else. The count is how many groups these are: fewer
+/// than `most` if the shard has no more. Refused with `BUSY`, and nothing has changed then; or with
+/// `OUT_OF_MEMORY` if a block is refused: some pages have moved then.
+#[unsafe(no_mangle)]
+pub extern "C" fn teurlaks_seat_gather(
+    alloc: Global,
+    handle: &mut ShareHandle,
+    from: usize,
+    most: usize,
+) -> GatherReply
+    ensures { (answer : _) × AsksPaused (Gathers most) handle.old.share answer handle.new.share
+        × SaysGathered result answer }
+{
+    gathered_reply(at_seat(alloc, handle, &Gather { from, most }))
 }
 
 /// Moves the pool's group of lowest head that has a page to the seat's shard, and answers its head.
@@ -390,6 +409,27 @@ fn trimmed_reply(answer: Option<Result<usize, Busy>>) -> TrimReply
             count: 0,
         },
         None => TrimReply {
+            status: NO_CORE,
+            count: 0,
+        },
+    }
+}
+
+// What C reads of a gathering.
+fn gathered_reply(answer: Option<Result<Result<usize, AllocError>, Busy>>) -> GatherReply
+    ensures { SaysGathered result answer }
+{
+    match answer {
+        Some(Ok(Ok(count))) => GatherReply { status: OK, count },
+        Some(Ok(Err(AllocError))) => GatherReply {
+            status: OUT_OF_MEMORY,
+            count: 0,
+        },
+        Some(Err(Busy)) => GatherReply {
+            status: BUSY,
+            count: 0,
+        },
+        None => GatherReply {
             status: NO_CORE,
             count: 0,
         },

@@ -275,8 +275,9 @@ impl<T> Seat<T> {
     /// Does what the arena has asked its seats for a compaction ([`Arena::ask_to_retire`],
     /// [`Arena::compact_in_background`]), once for each time that it has: adopts what the pool has,
     /// up to as many groups as this seat retired before, and retires as many as were asked for. It
-    /// says how many went to the pool. If nothing was asked, it costs a look at a number that
-    /// threads share.
+    /// says how many went to the pool. Once a compaction is over, and none is to be retired, it
+    /// [brings small pages together](Seat::gather). If nothing was asked, it costs a look at a
+    /// number that threads share.
     ///
     /// While a plan is open it does nothing, and a later call does what was asked.
     ///
@@ -304,6 +305,9 @@ impl<T> Seat<T> {
             Err(Refused::PlanOpen) => return Ok(0),
             Err(refused) => return Err(refused),
         };
+        if asked.most == 0 && self.has_small_pages {
+            self.gather()?;
+        }
         (self.helped, self.retired) = (asked.round, retired);
         self.turn().note_helped();
         Ok(retired)

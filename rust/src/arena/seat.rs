@@ -19,6 +19,9 @@ use std::marker::PhantomData;
 use std::mem::MaybeUninit;
 use std::ptr::NonNull;
 
+/// How many pages of a shard are brought to others while it is locked.
+const GATHERED: usize = 16;
+
 /// A thread's place at an [`Arena`](super::Arena): it keeps values in the shard of the seat, or in
 /// several in turn, and reads, sets and frees those of all shards.
 ///
@@ -50,6 +53,8 @@ pub struct Seat<T> {
     // The round of the last help with a compaction, and how many groups it left to the pool.
     pub(super) helped: u32,
     pub(super) retired: usize,
+    // Whether inserts take so few slots that pages share pages of the system.
+    pub(super) has_small_pages: bool,
     // A value of any other type is none of this arena, whatever its lifetime: it is read at all
     // seats.
     values: PhantomData<Cell<T>>,
@@ -57,13 +62,14 @@ pub struct Seat<T> {
 
 impl<T> Seat<T> {
     /// The seat that has these shards.
-    pub(super) fn new(lanes: Lanes, turn: Turn) -> Seat<T> {
+    pub(super) fn new(lanes: Lanes, turn: Turn, has_small_pages: bool) -> Seat<T> {
         Seat {
             lanes,
             turn,
             inside: Inside::nothing(),
             helped: 0,
             retired: 0,
+            has_small_pages,
             values: PhantomData,
         }
     }
@@ -638,6 +644,34 @@ impl<T> Seat<T> {
             trimmed.count
         };
         self.lanes.all().map(trim).sum()
+    }
+
+    /// Moves each page of the seat's shard, or of all that it has, to a block of memory that it asks
+    /// for now. Pages of less than 4,096 bytes share pages of the system, and those that this
+    /// empties leave the process. No key changes. The shard is locked for 16 pages at a time. If
+    /// [`Limits::slots`](crate::Limits::slots) is below 256, [`Seat::help_compact`] does so.
+    ///
+    /// # Errors
+    ///
+    /// [`Refused::OutOfMemory`]: a block was refused. Some pages have moved then.
+    pub fn gather(&mut self) -> Result<(), Refused> {
+        self.lanes.all().try_for_each(|lane| self.gather_at(lane))
+    }
+
+    /// Does so of one shard.
+    fn gather_at(&self, lane: &Owner) -> Result<(), Refused> {
+        let mut from = 0;
+        loop {
+            // SAFETY: as in `insert_here`.
+            let raw::GatherReply { status, count } = self.ask_seat(lane, Place::Here, |handle| {
+                unsafe { raw::teurlaks_seat_gather(handle, from, GATHERED) }
+            });
+            done(status)?;
+            if count < GATHERED {
+                return Ok(());
+            }
+            from += count;
+        }
     }
 
     /// Moves the pool's group of lowest head that has a page to the seat's shard, or to the next of

@@ -13,7 +13,8 @@ use std::marker::PhantomData;
 /// Its calls are those of the seat. A call on what is in the shard takes no lock; one on what is
 /// elsewhere tries the lock of that place, and where another thread has it the session lets go of
 /// its own shard until the call is made, as it does for [`Session::tend`], [`Session::end`],
-/// [`Session::begin`], [`Session::retire`], [`Session::trim`] and [`Session::adopt`].
+/// [`Session::begin`], [`Session::retire`], [`Session::trim`], [`Session::gather`] and
+/// [`Session::adopt`].
 ///
 /// Of the calls on what is in the shard it is proved that each does there exactly what the shard's
 /// own call does: an insert keeps the value under a key that was never given out, and a look-up
@@ -145,6 +146,15 @@ impl<T> Session<'_, T> {
     /// As [`Seat::trim`].
     pub fn trim(&mut self) -> usize {
         self.seat.trim()
+    }
+
+    /// As [`Seat::gather`].
+    ///
+    /// # Errors
+    ///
+    /// As of [`Seat::gather`].
+    pub fn gather(&mut self) -> Result<(), Refused> {
+        self.seat.gather()
     }
 
     /// As [`Seat::adopt`].

@@ -90,6 +90,7 @@ answers!(
     TendReply,
     RetireReply,
     TrimReply,
+    GatherReply,
     AdoptReply,
     MarkReply,
     StepReply,

@@ -1,6 +1,6 @@
 //! Compactions of a core, at once and in parts.
 
-use super::{done, Core, Limits, Plan};
+use super::{done, Core, Plan};
 use crate::compact::{Advanced, Compacted};
 use crate::names::Group;
 use crate::raw;
@@ -50,31 +50,21 @@ impl Core {
     /// # Ok::<(), teurlaks::Refused>(())
     /// ```
     pub fn compact(&mut self) -> Result<usize, Refused> {
-        if let Some(gone) = self.compact_full()? {
-            return Ok(gone);
+        if self.is_gathering() {
+            // All of it comes again behind the folds.
+            self.end_gathering();
+            self.gathering.went = self.pages();
         }
-        let done = self.compact_within(usize::MAX);
+        let gone = self.compact_full()?;
+        let done = gone.map_or_else(|| self.compact_folding(usize::MAX).map(|done| done.pages), Ok);
         if done.is_err() {
             self.give_up_compaction();
         }
-        let gone = done?.pages;
-        if gone > 0 {
-            self.gather_small();
-        }
+        let gone = done?;
+        self.begin_gathering();
+        // Only what is refused is left.
+        let _ = self.gather_within(usize::MAX);
         Ok(gone)
-    }
-
-    // Brings the pages together that share pages of the system, if inserts take so few slots that
-    // there are such. If memory is refused, the others stay where they are.
-    fn gather_small(&mut self) {
-        if self.limits.slots == Limits::default().slots {
-            return;
-        }
-        for shard in 0..self.limits.shards {
-            if self.gather(shard).is_err() {
-                return;
-            }
-        }
     }
 
     /// Gives back the pages on which no key is live, and says how many went, if what is live needs
@@ -151,8 +141,8 @@ impl Core {
     /// stopped, and once there is no more to do, the next one begins anew. The steps are proved:
     /// no key changes, and it is done only after a mark of it that is not worth another one.
     ///
-    /// A step trims one shard, retires one group, plans, folds one pair, adopts one group, or
-    /// forgets. A plan compares at most 4,096 times `budget` pairs of groups, where a budget below
+    /// A step trims one shard, retires one group, plans, folds one pair, adopts one group, forgets,
+    /// or [brings](Core::gather) one small page to others. A plan compares at most 4,096 times `budget` pairs of groups, where a budget below
     /// 64 counts as 64, and one above 4,096 as that: so of more than some thousand pages a round
     /// takes those with the fewest live keys alone. If more groups were left in the pool before, by
     /// an end or by retirements, it compares up to 4,096 of these with as many of the shards. To
@@ -193,6 +183,19 @@ impl Core {
     /// # Ok::<(), teurlaks::Refused>(())
     /// ```
     pub fn compact_within(&mut self, budget: usize) -> Result<Compacted, Refused> {
+        if self.is_gathering() {
+            return Ok(self.gather_within(budget));
+        }
+        let mut done = self.compact_folding(budget)?;
+        if !done.more {
+            self.begin_gathering();
+            done.more = self.is_gathering();
+        }
+        Ok(done)
+    }
+
+    /// The same up to the last of the folds.
+    fn compact_folding(&mut self, budget: usize) -> Result<Compacted, Refused> {
         self.begin_part()?;
         if !self.is_open() {
             return Ok(Compacted::default());
@@ -204,6 +207,7 @@ impl Core {
             pages,
         } = unsafe { raw::teurlaks_compact_within(&mut self.handle, budget) };
         self.gone += pages;
+        self.gathering.went += pages;
         self.counted(done(status).map(|()| more == 1))
     }
 
@@ -273,6 +277,7 @@ impl Core {
     /// Ends a compaction where it is: no plan of it is open, and the shards have the groups of the
     /// pool as far as they may.
     pub(crate) fn give_up_compaction(&mut self) {
+        self.end_gathering();
         if self.plan != Plan::Compaction {
             return;
         }

@@ -140,6 +140,15 @@ macro_rules! meshing {
             self.core.close()
         }
 
+        /// Moves each page of a shard to others, as [`Core::gather`](crate::Core::gather).
+        ///
+        /// # Errors
+        ///
+        /// As of [`Core::gather`](crate::Core::gather).
+        pub fn gather(&mut self, shard: u32) -> Result<(), crate::Refused> {
+            self.core.gather(shard)
+        }
+
         /// Marks, takes all steps and closes, as [`Core::mesh`](crate::Core::mesh).
         ///
         /// # Errors

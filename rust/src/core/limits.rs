@@ -20,8 +20,8 @@ pub struct Limits {
     /// How many slots of a page inserts may take, the lowest ones, 1 to 256. A page has 256 of
     /// values of up to 16 bytes, and fewer of larger ones. The fewer they take, the more pages fit
     /// each other once values are gone, so a compaction gives more back. Until then there are more
-    /// pages. Smaller pages share pages of the system: [`Core::compact`](crate::Core::compact)
-    /// brings them together, and what threads share does not, so there less leaves the process.
+    /// pages. Smaller pages share pages of the system, and a compaction
+    /// [brings them together](crate::Core::gather).
     pub slots: u32,
     /// How often a slot may be used, at least once. A slot that was used so often is never used
     /// again. A page of such slots makes way for another one once it has no value: when an insert

@@ -172,24 +172,8 @@ impl Core {
             unsafe { raw::teurlaks_trim(&mut self.handle, shard) };
         done(status)?;
         self.emptied |= u64::from(count > 0) << shard;
+        self.gathering.went += count;
         Ok(count)
-    }
-
-    /// Moves each page of the shard to a block of memory that it asks for now. Pages of less than
-    /// 4,096 bytes share pages of the system, and those that this empties leave the process. No key
-    /// changes. [`Core::compact`] does so at its end if [`Limits::slots`](super::Limits::slots) is
-    /// below 256.
-    ///
-    /// # Errors
-    ///
-    /// - [`Refused::Config`]: there is no such shard;
-    /// - [`Refused::OutOfMemory`]: a block was refused. Some pages have moved then.
-    pub fn gather(&mut self, shard: u32) -> Result<(), Refused> {
-        if !self.is_open() {
-            return self.has_shard(shard);
-        }
-        // SAFETY: as in `insert`.
-        done(unsafe { raw::teurlaks_gather(&mut self.handle, shard) })
     }
 
     /// Forgets the pages whose keys are all gone and that were folded onto others, or left to the

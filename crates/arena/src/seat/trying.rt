@@ -229,6 +229,26 @@ impl Seat {
         self.trim_within(&Tries, arena)
     }
 
+    /// What [`Seat::gather`] does, if no other thread has the shard's lock.
+    ///
+    /// # Errors
+    ///
+    /// [`Busy`] if another thread has it. Else the gathering, whose error is that of
+    /// [`Seat::gather`].
+    pub fn try_gather<G: Gate, L: Log>(
+        &mut self,
+        arena: &Arena<G, L>,
+        from: usize,
+        most: usize,
+    ) -> Result<Result<usize, AllocError>, Busy>
+        requires { self.old.limits ≡ arena.now.limits }
+        ensures at_most { IfOk result (λ gathered. IfOk gathered (λ count. count ≤ most)) }
+        ensures seat { OnOk result (CountsCall self.old self.new) }
+        ensures busy { OnErr result (self.new ≡ self.old) }
+    {
+        self.gather_within(&Tries, arena, from, most)
+    }
+
     /// What [`Seat::adopt`] does, if no other thread has the pool's lock or the shard's.
     ///
     /// # Errors

@@ -122,8 +122,9 @@ impl<L: Log> Core<L> {
         }
     }
 
-    // The first live key of the span at a slot from this one on, wherever the span is.
-    fn first_in_span(&self, id: SpanId, slot: u32) -> Option<Key>
+    /// The first live key of the span at a slot from this one on, wherever the span is. It looks at
+    /// the later slots of that span alone, and takes no memory.
+    pub fn first_in_span(&self, id: SpanId, slot: u32) -> Option<Key>
         ensures { MatchOption result (HasNoneFrom (shown self.now) id slot)
             (IsFirstFrom (shown self.now) id slot) }
     {

@@ -1,5 +1,5 @@
 use Rattle.std.proofs.Common.{◌≡◌}
-use Rattle.arena_core.proofs.machine.gathering.gather_all.Given as goal
+use Rattle.arena_core.proofs.machine.gathering.gather_some.Given as goal
 
 abbrev pub invariant-loop-index : goal.invariant-loop-index
 invariant-loop-index g l = l.shard ≡ l.fn.shard
