@@ -41,6 +41,7 @@ static void each_call(struct teurlaks_handle *none, struct teurlaks_key key) {
     many = teurlaks_get_many(none, keys, 1, &got, 1);
     WANT(many.status == TEURLAKS_NO_CORE && many.count == 0 && got.status == TEURLAKS_NO_CORE);
     WANT(teurlaks_next(none, key).status == TEURLAKS_NO_CORE);
+    WANT(teurlaks_next_in_span(none, (struct teurlaks_span){0, 0}, 0).status == TEURLAKS_NO_CORE);
     WANT(teurlaks_contains(none, key) == TEURLAKS_NO_CORE);
     WANT(teurlaks_totals(none).pages == 0 && teurlaks_totals(none).live == 0);
     WANT(teurlaks_end(none, 0) == TEURLAKS_NO_CORE);
@@ -105,6 +106,8 @@ static void each_call_of_a_seat(struct teurlaks_share_handle *none, struct teurl
          teurlaks_seat_retire(none, 9).count == 0);
     WANT(teurlaks_seat_trim(none).status == TEURLAKS_NO_CORE &&
          teurlaks_seat_trim(none).count == 0);
+    WANT(teurlaks_steward_gather(none, 0, 9).status == TEURLAKS_NO_CORE &&
+         teurlaks_steward_gather(none, 0, 9).count == 0);
     WANT(teurlaks_seat_gather(none, 0, 9).status == TEURLAKS_NO_CORE &&
          teurlaks_seat_gather(none, 0, 9).count == 0);
     WANT(teurlaks_seat_adopt(none).status == TEURLAKS_NO_CORE);

@@ -354,6 +354,11 @@ struct teurlaks_many_reply teurlaks_get_many(const struct teurlaks_handle *handl
 struct teurlaks_next_reply teurlaks_next(const struct teurlaks_handle *handle,
                                          struct teurlaks_key after);
 
+/* The first live key of one span at a slot from this one on, wherever the span is; TEURLAKS_NONE if
+ * there is none. Takes no memory. */
+struct teurlaks_next_reply teurlaks_next_in_span(const struct teurlaks_handle *handle,
+                                                 struct teurlaks_span span, uint32_t slot);
+
 /* Whether the key is live: TEURLAKS_OK, or TEURLAKS_NONE. No word of its object is read. */
 uint32_t teurlaks_contains(const struct teurlaks_handle *handle, struct teurlaks_key key);
 
@@ -647,6 +652,10 @@ struct teurlaks_mark_reply teurlaks_steward_mark_some(struct teurlaks_share_hand
 
 /* As teurlaks_step: the pair stays next where the status is TEURLAKS_BUSY. */
 struct teurlaks_step_reply teurlaks_steward_step(struct teurlaks_share_handle *handle);
+
+/* As teurlaks_gather, of the pool, whose lock it has meanwhile: so take few groups at a time. */
+struct teurlaks_gather_reply teurlaks_steward_gather(struct teurlaks_share_handle *handle,
+                                                     size_t from, size_t most);
 
 /* As teurlaks_close. */
 uint32_t teurlaks_steward_close(struct teurlaks_share_handle *handle);

@@ -187,6 +187,13 @@ teurlaks_tested_next(const struct teurlaks_handle *handle, struct teurlaks_key a
     return handle ? teurlaks_next(handle, after) : none;
 }
 
+TEURLAKS_INLINE struct teurlaks_next_reply
+teurlaks_tested_next_in_span(const struct teurlaks_handle *handle, struct teurlaks_span span,
+                             uint32_t slot) {
+    struct teurlaks_next_reply none = {TEURLAKS_NO_CORE, {0, 0, 0, 0, 0}};
+    return handle ? teurlaks_next_in_span(handle, span, slot) : none;
+}
+
 TEURLAKS_INLINE uint32_t teurlaks_tested_contains(const struct teurlaks_handle *handle,
                                                   struct teurlaks_key key) {
     return handle ? teurlaks_contains(handle, key) : (uint32_t)TEURLAKS_NO_CORE;
@@ -475,6 +482,12 @@ teurlaks_tested_seat_adopt(struct teurlaks_share_handle *handle) {
     return handle ? teurlaks_seat_adopt(handle) : none;
 }
 
+TEURLAKS_INLINE struct teurlaks_gather_reply
+teurlaks_tested_steward_gather(struct teurlaks_share_handle *handle, size_t from, size_t most) {
+    struct teurlaks_gather_reply none = {TEURLAKS_NO_CORE, 0};
+    return handle ? teurlaks_steward_gather(handle, from, most) : none;
+}
+
 TEURLAKS_INLINE struct teurlaks_mark_reply
 teurlaks_tested_steward_mark(struct teurlaks_share_handle *handle) {
     struct teurlaks_mark_reply none = {TEURLAKS_NO_CORE, 0, 0, 0, 0};
@@ -534,6 +547,7 @@ teurlaks_tested_steward_totals(struct teurlaks_share_handle *handle) {
 #define teurlaks_free_many teurlaks_tested_free_many
 #define teurlaks_get_many teurlaks_tested_get_many
 #define teurlaks_next teurlaks_tested_next
+#define teurlaks_next_in_span teurlaks_tested_next_in_span
 #define teurlaks_contains teurlaks_tested_contains
 #define teurlaks_totals teurlaks_tested_totals
 #define teurlaks_end teurlaks_tested_end
@@ -577,6 +591,7 @@ teurlaks_tested_steward_totals(struct teurlaks_share_handle *handle) {
 #define teurlaks_seat_retire teurlaks_tested_seat_retire
 #define teurlaks_seat_trim teurlaks_tested_seat_trim
 #define teurlaks_seat_gather teurlaks_tested_seat_gather
+#define teurlaks_steward_gather teurlaks_tested_steward_gather
 #define teurlaks_seat_next teurlaks_tested_seat_next
 #define teurlaks_seat_adopt teurlaks_tested_seat_adopt
 #define teurlaks_steward_mark teurlaks_tested_steward_mark

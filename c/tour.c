@@ -206,6 +206,12 @@ static void tour(void) {
     /* The first live key is that of the group that was folded, at its own slot. */
     struct teurlaks_next_reply next = teurlaks_next(&core, first.key);
     WANT(next.status == TEURLAKS_OK && !memcmp(&next.key, &put.key, sizeof put.key));
+    /* Its span has no other one, and no span has a shard behind the last. */
+    struct teurlaks_span folded = {put.key.shard, put.key.serial}, no_span = {64, 0};
+    next = teurlaks_next_in_span(&core, folded, 0);
+    WANT(next.status == TEURLAKS_OK && !memcmp(&next.key, &put.key, sizeof put.key));
+    WANT(teurlaks_next_in_span(&core, folded, put.key.slot + 1u).status == TEURLAKS_NONE);
+    WANT(teurlaks_next_in_span(&core, no_span, 0).status == TEURLAKS_NONE);
     WANT(free_all(&core) == 2 && teurlaks_totals(&core).live == 0);
     /* The span that was folded has nothing live, and takes no put: it is forgotten, once. */
     WANT(teurlaks_forget(&core).count == 1 && teurlaks_forget(&core).count == 0);

@@ -368,6 +368,11 @@ extern "C" {
     pub fn teurlaks_steward_step(handle: *mut ShareHandle) -> StepReply;
     pub fn teurlaks_steward_close(handle: *mut ShareHandle) -> u32;
     pub fn teurlaks_steward_forget(handle: *mut ShareHandle) -> ForgetReply;
+    pub fn teurlaks_steward_gather(
+        handle: *mut ShareHandle,
+        from: usize,
+        most: usize,
+    ) -> GatherReply;
     pub fn teurlaks_steward_certificate(
         handle: *mut ShareHandle,
         text: *mut u8,

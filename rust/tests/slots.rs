@@ -163,10 +163,11 @@ fn small_pages_are_gathered() -> Result<(), Refused> {
     Ok(())
 }
 
-/// The same in parts, of what threads share: every key has its value after each part.
+/// The same in parts, also of what threads share: each key has its value after each part.
 #[test]
 fn small_pages_are_gathered_in_parts() -> Result<(), Refused> {
     let is_kept = |n: usize| n % 9 == 0;
+    let value = |n: usize| is_kept(n).then_some(n as u64);
     for (slots, budget) in [(64, 1), (128, 7), (64, usize::MAX)] {
         let mut store = Store::<u64>::with_limits(of_slots(slots))?;
         let shared = SharedStore::<u64>::with_limits(of_slots(slots))?;
@@ -177,24 +178,30 @@ fn small_pages_are_gathered_in_parts() -> Result<(), Refused> {
             assert!(store.free(key) && shared.remove(of_shared).is_some());
         }
         let before = (store.pages(), shared.pages());
-        let (mut gone, mut gone_of_shared) = (0, 0);
-        for number in 0.. {
+        let (mut gone, mut number) = ((0, 0), 0);
+        loop {
             let done = store.compact_within(budget)?;
-            let done_of_shared = shared.compact_within(budget)?;
-            gone += done.pages;
-            gone_of_shared += done_of_shared.pages;
-            let n = number * 7919 % keys.len();
-            let value = is_kept(n).then_some(n as u64);
-            assert_eq!((store.get(keys[n].0), shared.get(keys[n].1)), (value, value));
-            if !done.more && !done_of_shared.more {
+            gone.0 += done.pages;
+            number = (number + 7919) % keys.len();
+            assert_eq!(store.get(keys[number].0), value(number));
+            if !done.more {
                 break;
             }
         }
-        assert!(gone > before.0 / 2 && gone_of_shared > before.1 / 2);
-        assert_eq!((store.pages(), shared.pages()), (before.0 - gone, before.1 - gone_of_shared));
+        loop {
+            let done = shared.compact_within(budget)?;
+            gone.1 += done.pages;
+            number = (number + 7919) % keys.len();
+            assert_eq!(shared.get(keys[number].1), value(number));
+            if !done.more {
+                break;
+            }
+        }
+        assert!(gone.0 > before.0 / 2 && gone.1 > before.1 / 2);
+        assert_eq!(store.pages(), before.0 - gone.0);
+        assert_eq!(shared.pages(), before.1 - gone.1);
         for (n, &(key, of_shared)) in keys.iter().enumerate() {
-            let value = is_kept(n).then_some(n as u64);
-            assert_eq!((store.get(key), shared.get(of_shared)), (value, value));
+            assert_eq!((store.get(key), shared.get(of_shared)), (value(n), value(n)));
         }
     }
     Ok(())

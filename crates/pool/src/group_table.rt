@@ -1,5 +1,5 @@
 // The groups of the pool, found by their heads.
-ghost use Rattle.std.specs.Prelude.{◌≡◌, ◌<◌, ◌≤◌, ◌-◌, ◌+◌, ◌++◌, ◌*◌, ◌↔◌, ℕ, [], IfOk, IfSome, IsSome, IsTrue, MatchOption, OnErr, OnOk, Some, length, map, max, slice_get, swap_remove, vec_capacity};
+ghost use Rattle.std.specs.Prelude.{◌≡◌, ◌<◌, ◌≤◌, ◌-◌, ◌+◌, ◌++◌, ◌*◌, ◌↔◌, ℕ, [], IfOk, IfSome, IsSome, IsTrue, MatchOption, OnErr, OnOk, Some, length, map, max, min, slice_get, swap_remove, vec_capacity};
 ghost use Rattle.std.specs.Bool.{OnTrue, OnFalse};
 ghost use Rattle.std.specs.FinMap as table;
 ghost use Rattle.std.specs.List.{Contains};
@@ -207,6 +207,24 @@ impl<L: Log> GroupTable<L> {
         freed
     }
 
+    /// Moves the pages of up to `most` groups, from the one at the place `from` of the row on, to
+    /// blocks that it asks for now, and says how many groups these are.
+    ///
+    /// # Errors
+    ///
+    /// `AllocError` if a block is refused. Some pages have moved then.
+    pub(crate) fn gather(
+        &mut self,
+        alloc: Global,
+        from: usize,
+        most: usize,
+    ) -> Result<usize, AllocError>
+        ensures same { self.new ≡ self.old }
+        ensures count { IfOk result (λ count. count ≡ min most (length self.old.groups - from)) }
+    {
+        gather_some(&mut self.row, alloc, from, most)
+    }
+
     /// The head of the group of lowest head that has a page. A rank whose group has none is looked
     /// at once.
     pub(crate) fn lowest_paged(&mut self) -> Option<SpanId>
@@ -323,6 +341,38 @@ impl GroupTable<Counted> {
         note_bytes(&mut self.least, self.row.as_slice());
         give_back_bytes(&mut self.least, self.room);
     }
+}
+
+// Moves the pages of up to `most` groups, from the one at this place on, the first first.
+fn gather_some<L: Log>(
+    row: &mut Vec<Pooled<L>>,
+    alloc: Global,
+    from: usize,
+    most: usize,
+) -> Result<usize, AllocError>
+    ensures items { row.new.items ≡ row.old.items }
+    ensures capacity { vec_capacity row.new ≡ vec_capacity row.old }
+    ensures count { IfOk result (λ count. count ≡ min most (length row.old.items - from)) }
+{
+    let left = row.len().saturating_sub(from);
+    let count = left.min(most);
+    for place in from..from + count {
+        renew_at(row, alloc, place)?;
+    }
+    Ok(count)
+}
+
+// Moves the page of the group at the place.
+fn renew_at<L: Log>(
+    row: &mut Vec<Pooled<L>>,
+    alloc: Global,
+    place: usize,
+) -> Result<(), AllocError>
+    requires { place < length row.old.items }
+    ensures items { row.new.items ≡ row.old.items }
+    ensures capacity { vec_capacity row.new ≡ vec_capacity row.old }
+{
+    row[place].renew(alloc)
 }
 
 // Where in the row the head's group stands, if it is here.

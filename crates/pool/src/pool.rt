@@ -25,6 +25,7 @@ use std::alloc::{AllocError, Global};
 use std::marker::Model;
 
 mod forgetting;
+mod gathering;
 mod handover;
 mod logs;
 mod moves;

@@ -206,6 +206,18 @@ impl<L: Log> Pooled<L> {
         true
     }
 
+    /// Moves the words of its page, if it has them in memory, to a block that it asks for now. The
+    /// words are the same either way.
+    ///
+    /// # Errors
+    ///
+    /// `AllocError` if the block is refused.
+    pub(crate) fn renew(&mut self, alloc: Global) -> Result<(), AllocError>
+        ensures { self.new ≡ self.old }
+    {
+        self.words.renew(alloc)
+    }
+
     // Gives its page up, if it has one, where no slot is live.
     fn give_up_page(&mut self, alloc: Global)
         ensures { GivesUp self.old self.new }

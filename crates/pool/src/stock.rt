@@ -26,6 +26,7 @@ use std::alloc::{AllocError, Global};
 use std::marker::Model;
 
 mod forgetting;
+mod gathering;
 mod logs;
 mod moves;
 mod replacing;

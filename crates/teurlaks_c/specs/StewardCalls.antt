@@ -1,5 +1,5 @@
 -- What the calls on the steward of an arena do.
-use Rattle.std.specs.Prelude.{◌≡◌, ℕ, All, List, Bool, true, false, Option, Some, None, Result, Ok, Err, IfOk, IsErr, IsSome, ◌↔◌, OnErr, OnOk, MatchOption, MatchResult, is_some, ◌++◌, ◌∷◌, [], ◌⊎◌, vec_len}
+use Rattle.std.specs.Prelude.{◌≡◌, ◌≤◌, ℕ, All, List, Bool, true, false, Option, Some, None, Result, Ok, Err, IfOk, IsErr, IsSome, ◌↔◌, OnErr, OnOk, MatchOption, MatchResult, is_some, ◌++◌, ◌∷◌, [], ◌⊎◌, vec_len}
 use Rattle.std.specs.declared.alloc.AllocError.{AllocError}
 use Rattle.std.specs.declared.alloc.Global.{Global}
 use Rattle.std.specs.declared.boxed.Box.{Box}
@@ -191,6 +191,12 @@ Closes before answer after =
 -- nothing of the steward changes
 abbrev pub Keeps : {Answer : Type 0} → StewardAndMark → Answer → StewardAndMark → Type 0
 Keeps before answer after = (after.steward ≡ before.steward) × (after.last ≡ before.last)
+
+-- as many groups as it says were gathered, up to so many, or a block was refused
+abbrev pub GathersPooled : ℕ → StewardAndMark → Result (Result ℕ AllocError) Busy
+    → StewardAndMark → Type 0
+GathersPooled most before answer after =
+    IfOk answer (λ gathered. IfOk gathered (λ count. count ≤ most)) × Keeps before answer after
 
 -- the text of the certificate that is kept is written into the room, where the handle has a steward
 abbrev pub WritesLast : Option Share → List ℕ → CertificateReply → List ℕ → Type 0

@@ -110,7 +110,8 @@ pub use sessions::{teurlaks_seat_pause, teurlaks_seat_session};
 pub use stewards::{
     teurlaks_arena_open, teurlaks_arena_open_with_slots, teurlaks_arena_open_with_spans,
     teurlaks_share_drop, teurlaks_steward_certificate, teurlaks_steward_close,
-    teurlaks_steward_forget, teurlaks_steward_mark, teurlaks_steward_mark_some,
-    teurlaks_steward_seat, teurlaks_steward_step, teurlaks_steward_totals,
+    teurlaks_steward_forget, teurlaks_steward_gather, teurlaks_steward_mark,
+    teurlaks_steward_mark_some, teurlaks_steward_seat, teurlaks_steward_step,
+    teurlaks_steward_totals,
 };
 pub use walks::{teurlaks_seat_next, teurlaks_steward_next};

@@ -415,8 +415,8 @@ fn trimmed_reply(answer: Option<Result<usize, Busy>>) -> TrimReply
     }
 }
 
-// What C reads of a gathering.
-fn gathered_reply(answer: Option<Result<Result<usize, AllocError>, Busy>>) -> GatherReply
+/// What C reads of a gathering.
+pub(crate) fn gathered_reply(answer: Option<Result<Result<usize, AllocError>, Busy>>) -> GatherReply
     ensures { SaysGathered result answer }
 {
     match answer {

@@ -3,7 +3,7 @@ ghost use Rattle.std.specs.Prelude.{◌≡◌, Some};
 ghost use Rattle.certificate.specs.Text.{IsWritable};
 ghost use Rattle.teurlaks_c.specs.declared.share.StewardAndMark.{StewardAndMark};
 ghost use Rattle.teurlaks_c.specs.Calls.{CountsOf, kept};
-ghost use Rattle.teurlaks_c.specs.StewardCalls.{Asks, Closes, Keeps, Marks, TakesStep};
+ghost use Rattle.teurlaks_c.specs.StewardCalls.{Asks, Closes, GathersPooled, Keeps, Marks, TakesStep};
 
 use crate::held::Witness;
 use crate::meshing::marked;
@@ -153,6 +153,27 @@ impl StewardCall for Close {
         inner: &mut StewardAndMark,
     ) -> Result<bool, Busy> {
         arena.try_close(&mut inner.steward)
+    }
+}
+
+/// A gathering of up to that many groups of the pool.
+#[derive(Drop)]
+pub(crate) struct GatherPool {
+    pub(crate) from: usize,
+    pub(crate) most: usize,
+}
+
+impl StewardCall for GatherPool {
+    type Answer = Result<Result<usize, AllocError>, Busy>;
+
+    ghost does = { λ call. GathersPooled call.most };
+
+    fn ask<L: Log>(
+        &self,
+        arena: &Arena<NoGate, L>,
+        _inner: &mut StewardAndMark,
+    ) -> Result<Result<usize, AllocError>, Busy> {
+        arena.try_gather_pool(self.from, self.most)
     }
 }
 

@@ -6,20 +6,24 @@ ghost use Rattle.teurlaks_c.specs.declared.share.Share.TheVariants as shares;
 ghost use Rattle.marks.specs.Numbers.{AreWithin, limits_of};
 ghost use Rattle.teurlaks_c.specs.Numbers.{limits_given, limits_with};
 ghost use Rattle.teurlaks_c.specs.Status.{config, has_core, mark_status, no_core, out_of_memory, status_of_outcome};
-ghost use Rattle.teurlaks_c.specs.StewardCalls.{Asks, Closes, ForgetsAll, HandsBoxed, HandsOutBoxed, HandsOutOf, HasNewArena, Keeps, LeavesSeat, Marks, SaysClosed, SaysForgotten, SaysMarked, SaysStepped, SaysTotals, TakesStep, WritesLast};
+ghost use Rattle.teurlaks_c.specs.SeatCalls.{SaysGathered};
+ghost use Rattle.teurlaks_c.specs.StewardCalls.{Asks, Closes, ForgetsAll, GathersPooled, HandsBoxed, HandsOutBoxed, HandsOutOf, HasNewArena, Keeps, LeavesSeat, Marks, SaysClosed, SaysForgotten, SaysMarked, SaysStepped, SaysTotals, TakesStep, WritesLast};
 
 use crate::keys::raw_span;
 use crate::limits::limits_for;
 use crate::meshing::{unmarked, unstepped, write_last};
 use crate::recorded_stewards::kept_seat_of;
-use crate::replies::{ArenaTotalsReply, CertificateReply, ForgetReply, MarkReply, StepReply};
+use crate::replies::{
+    ArenaTotalsReply, CertificateReply, ForgetReply, GatherReply, MarkReply, StepReply,
+};
+use crate::seats::gathered_reply;
 use crate::share::{Shards, Share, SharedSeat, SharedSteward, StewardAndMark};
 use crate::share_handle::ShareHandle;
 use crate::status::{
     BUSY, CONFIG, EMPTIED, HAS_CORE, NO_CORE, NO_PAIR_LEFT, NO_PLAN, NONE, OK, OUT_OF_MEMORY,
     PLAN_OPEN, RECORDED, TOO_MANY,
 };
-use crate::steward_calls::{Close, CountAll, Mark, MarkSome, Step, at_steward};
+use crate::steward_calls::{Close, CountAll, GatherPool, Mark, MarkSome, Step, at_steward};
 use arena::{Arena, Busy, NoGate, PlanOpen, Seat, Stepped, Totals};
 use bitmap::SLOTS;
 use fold::Step as Outcome;
@@ -343,6 +347,23 @@ fn forget_of(share: &Share) -> ForgetReply
         Share::RecordedSteward(_) => unforgotten(RECORDED),
         _ => unforgotten(NO_CORE),
     }
+}
+
+/// Moves the pages of up to `most` groups of the pool, from the one numbered `from` on, to blocks
+/// that it asks for now, and changes nothing else. The count is how many groups these are: fewer
+/// than `most` if the pool has no more. Refused with `BUSY`, and nothing has changed then; or with
+/// `OUT_OF_MEMORY` if a block is refused: some pages have moved then.
+#[unsafe(no_mangle)]
+pub extern "C" fn teurlaks_steward_gather(
+    alloc: Global,
+    handle: &mut ShareHandle,
+    from: usize,
+    most: usize,
+) -> GatherReply
+    ensures { (answer : _) × Asks (GathersPooled most) handle.old.share answer handle.new.share
+        × SaysGathered result answer }
+{
+    gathered_reply(at_steward(alloc, handle, &GatherPool { from, most }))
 }
 
 /// Writes the text of the last mark's certificate into `text`, from its first byte on, and answers

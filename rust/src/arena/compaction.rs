@@ -4,8 +4,9 @@ use super::{Arena, Seat};
 use crate::background::{Background, Compacts, Policy};
 use crate::bytes::{slots_for, words_for};
 use crate::compact::Compacted;
-use crate::core::Stepped;
+use crate::core::{done, Limits, Stepped};
 use crate::occupancy::Occupancy;
+use crate::raw;
 use crate::refused::Refused;
 use std::io;
 use std::mem::size_of;
@@ -22,7 +23,14 @@ pub(super) enum Part {
         again: bool,
     },
     Forget,
+    /// The small pages of the pool, from this group on.
+    Gather {
+        from: usize,
+    },
 }
+
+/// How many pages of the pool a step brings to others.
+const GATHERED: usize = 16;
 
 impl<T> Arena<T> {
     /// Takes at most so many steps of a compaction, at least one, and says how many pages went and
@@ -30,7 +38,8 @@ impl<T> Arena<T> {
     /// more to do, the next one begins anew.
     ///
     /// The arena folds what seats have left to the pool ([`Seat::retire`], [`Seat::end`],
-    /// [`Seat::help_compact`]): a step is a mark, a pair of its plan, or a forgetting. A mark is
+    /// [`Seat::help_compact`]): a step is a mark, a pair of its plan, a forgetting, or, if
+    /// [`Limits::slots`] is below 256, 16 pages of the pool that are brought together. A mark is
     /// that of [`Arena::mark_some`], so it holds all locks for as long as it plans: the fewer
     /// groups there are in the pool, the shorter. What is not folded stays in the pool until a seat
     /// adopts it.
@@ -107,11 +116,34 @@ impl<T> Arena<T> {
                     Ok(_) | Err(Refused::Recorded) => {}
                     Err(refused) => return Err(refused),
                 }
+                self.part = Part::Gather { from: 0 };
+                if self.numbers.limits.slots == Limits::default().slots {
+                    self.part = Part::Mark;
+                    return Ok(false);
+                }
+            }
+            Part::Gather { from } => {
                 self.part = Part::Mark;
-                return Ok(false);
+                // What is refused stays where it is.
+                if self.gather_some(from) != Ok(GATHERED) {
+                    return Ok(false);
+                }
+                self.part = Part::Gather {
+                    from: from + GATHERED,
+                };
             }
         }
         Ok(true)
+    }
+
+    /// Moves the pages of some groups of the pool, from this one on, to lower blocks, and says how
+    /// many these are: fewer than `GATHERED` if there are no more.
+    fn gather_some(&mut self, from: usize) -> Result<usize, Refused> {
+        // SAFETY: as in `Arena::mark`.
+        let gathered = self.standing()?.call(|share| unsafe {
+            raw::teurlaks_steward_gather(share, from, GATHERED)
+        });
+        done(gathered.status).map(|()| gathered.count)
     }
 
     /// Notes that the plan was closed, which is one of a compaction if folds come next there.

@@ -6,6 +6,8 @@
 //! full, freed, and given back; and how many pages of Teurlaks there were, and are left. Before
 //! each look but that at freed values the allocator is asked to hand back what it keeps free. At
 //! the end each value that was kept is found by its key.
+//!
+//! WHO may be `teurlaks-shared-SLOTS`: a `SharedStore` whose inserts take so many slots of a page.
 
 use beside::random::Random;
 use std::hint::black_box;
@@ -101,6 +103,39 @@ impl<const N: usize> Values<N> for Store<N> {
     }
     fn pages(&self) -> usize {
         self.store.pages()
+    }
+}
+
+/// A store that threads share, whose inserts take so many slots of a page.
+struct Shared<const N: usize>(teurlaks::SharedStore<[u8; N]>);
+
+impl<const N: usize> Shared<N> {
+    fn of(slots: &str) -> Option<Shared<N>> {
+        let limits = Limits {
+            shards: 16,
+            slots: slots.parse().ok()?,
+            ..Limits::default()
+        };
+        teurlaks::SharedStore::with_limits(limits).ok().map(Shared)
+    }
+}
+
+impl<const N: usize> Values<N> for Shared<N> {
+    type Key = teurlaks::Key;
+    fn put(&mut self, _: usize, value: [u8; N]) -> Self::Key {
+        self.0.insert(value).expect("it has room")
+    }
+    fn get(&self, _: usize, key: Self::Key) -> Option<[u8; N]> {
+        self.0.get(key)
+    }
+    fn free(&mut self, _: usize, key: Self::Key) -> bool {
+        self.0.remove(key).is_some()
+    }
+    fn give_back(&mut self, _: &mut Keys<Self::Key>) {
+        self.0.compact().expect("there is memory");
+    }
+    fn pages(&self) -> usize {
+        self.0.pages()
     }
 }
 
@@ -275,7 +310,10 @@ fn measure_of<const N: usize>(who: &str, percent: usize) -> Option<String> {
         "slotmap" => measure(SlotMap::<N>(slotmap::SlotMap::new()), percent),
         "sharded-slab" => measure(Sharded::<N>(sharded_slab::Slab::new()), percent),
         "boxes" => measure(Boxes::<N>(Vec::new()), percent),
-        _ => return None,
+        _ => {
+            let slots = who.strip_prefix("teurlaks-shared-")?;
+            measure(Shared::<N>::of(slots)?, percent)
+        }
     })
 }
 

@@ -30,10 +30,10 @@ impl<L: Log> Core<L> {
         let Some(shard) = self.shards.get_mut(number as usize) else {
             return self.gather_none(number, from, most);
         };
-        match gather_some(shard, from, most) {
-            Ok(count) => Ok(count),
-            Err(_) => Err(Refusal::OutOfMemory),
-        }
+        let Ok(count) = gather_some(shard, from, most) else {
+            return Err(Refusal::OutOfMemory);
+        };
+        Ok(count)
     }
 
     // The same of a shard that is not made, and so has no page.

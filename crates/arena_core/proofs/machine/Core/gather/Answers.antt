@@ -13,21 +13,4 @@ gather_none-requires g c = IsUnused-unmade (state_of c.self.inside) c.self.insid
 pub invariant_of-self-2 : goal.invariant_of-self-2
 invariant_of-self-2 g c =
     IsKept-same c.self.inside c.self.invariant c.args.number c.in-Some.shard.now (record { within = c.in-Some.ensures.variant.0 refl; value = c.in-Some.ensures.value })
-    c.gather_all.new.shard c.gather_all.ensures
-
-pub returns-clause-exact : goal.returns-clause-exact
-returns-clause-exact g c =
-    let read : IsRead c.self.inside c.args.number c.in-Some.shard.now = record { within = c.in-Some.ensures.variant.0 refl; value = c.in-Some.ensures.value } in
-    let here = slice_get_within (shards_of c.self.inside) c.args.number c.in-Some.shard.now (shard-read c.self.inside c.args.number c.in-Some.shard.now read) in
-    omega (arith, here, c.self.invariant.sound.groups.count, ap (λ (s : CoreState). s.limits.shards) c.self.view_is)
-
-pub invariant_of-self-then-is_err : goal.invariant_of-self-then-is_err
-invariant_of-self-then-is_err g c =
-    IsKept-same c.self.inside c.self.invariant c.args.number c.in-Some.shard.now (record { within = c.in-Some.ensures.variant.0 refl; value = c.in-Some.ensures.value })
-    c.gather_all.new.shard c.gather_all.ensures
-
-pub returns-then-is_err-clause-exact : goal.returns-then-is_err-clause-exact
-returns-then-is_err-clause-exact g c =
-    let read : IsRead c.self.inside c.args.number c.in-Some.shard.now = record { within = c.in-Some.ensures.variant.0 refl; value = c.in-Some.ensures.value } in
-    let here = slice_get_within (shards_of c.self.inside) c.args.number c.in-Some.shard.now (shard-read c.self.inside c.args.number c.in-Some.shard.now read) in
-    omega (arith, here, c.self.invariant.sound.groups.count, ap (λ (s : CoreState). s.limits.shards) c.self.view_is)
+    c.gather_some.new.shard c.gather_some.ensures.same
