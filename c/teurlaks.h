@@ -394,11 +394,11 @@ struct teurlaks_trim_reply teurlaks_trim(struct teurlaks_handle *handle, uint32_
  * smaller table in the place of a larger one, which stays if there is none. */
 struct teurlaks_forget_reply teurlaks_forget(struct teurlaks_handle *handle);
 
-/* Moves the pages of up to `most` groups of the shard, from its group `from` on, to blocks of memory
- * that it asks for now: pages of less than 4,096 bytes share pages of the system, and pages.c, which
- * hands out its lowest free block first, gives back those that this empties. Call it for each shard
- * after a compaction, from 0 on. The count is how many groups these are: fewer than `most` if the
- * shard has no more. No key changes. TEURLAKS_CONFIG where there is no such shard;
+/* Moves the pages of up to `most` groups of the shard, from its group `from` on, to blocks of
+ * memory that it asks for now: pages of less than 4,096 bytes share pages of the system, and
+ * pages.c, which hands out its lowest free block first, gives back those that this empties. Call it
+ * for each shard after a compaction, from 0 on. The count is how many groups these are: fewer than
+ * `most` if the shard has no more. No key changes. TEURLAKS_CONFIG where there is no such shard;
  * TEURLAKS_OUT_OF_MEMORY where a block is refused: some pages have moved then. */
 struct teurlaks_gather_reply teurlaks_gather(struct teurlaks_handle *handle, uint32_t shard,
                                              size_t from, size_t most);

@@ -156,8 +156,8 @@ abbrev pub Nexts : Option Held → RawKey → NextReply → Option Held → Type
 Nexts old raw says new = (after found : Option Key) × MatchOption after (IsNoKey raw) (IsKeyOf raw)
     × NextsKey old after found new × SaysNext says found
 
--- the first live key of the span at a slot from this one on, of the map that the core shows; nothing
--- changes
+-- the first live key of the span at a slot from this one on, in the map that the core shows;
+-- nothing changes
 pub record NextsKeyIn (old : Option Held) (id : SpanId) (from : ℕ) (found : Option Key)
   (new : Option Held) : Type 0 where
   pub held : Held

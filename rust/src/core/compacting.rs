@@ -142,10 +142,11 @@ impl Core {
     /// no key changes, and it is done only after a mark of it that is not worth another one.
     ///
     /// A step trims one shard, retires one group, plans, folds one pair, adopts one group, forgets,
-    /// or [brings](Core::gather) one small page to others. A plan compares at most 4,096 times `budget` pairs of groups, where a budget below
-    /// 64 counts as 64, and one above 4,096 as that: so of more than some thousand pages a round
-    /// takes those with the fewest live keys alone. If more groups were left in the pool before, by
-    /// an end or by retirements, it compares up to 4,096 of these with as many of the shards. To
+    /// or [brings](Core::gather) one small page to others. A plan compares at most 4,096 times
+    /// `budget` pairs of groups, where a budget below 64 counts as 64, and one above 4,096 as that:
+    /// so of more than some thousand pages a round takes those with the fewest live keys alone. If
+    /// more groups were left in the pool before, by an end or by retirements, it compares up to
+    /// 4,096 of these with as many of the shards. To
     /// choose groups, and for each adoption, it also looks once at each page of a shard.
     ///
     /// Between two calls every key stays valid: it is found, set and freed as ever. A plan may be
