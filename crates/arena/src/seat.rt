@@ -624,9 +624,9 @@ impl Seat {
         ensures seat { OnOk result (CountsCall self.old self.new) }
         ensures busy { OnErr result (self.new ≡ self.old) }
     {
-        let number = self.worker;
-        let mut shard = patience.lock(&arena.shards[number as usize])?;
-        arena.gate.inside(number);
+        let own = self.worker;
+        let mut shard = patience.lock(&arena.shards[own as usize])?;
+        arena.gate.inside(own);
         self.count_call();
         Ok(gather_in(&mut *shard, from, most))
     }
