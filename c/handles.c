@@ -106,8 +106,6 @@ static void each_call_of_a_seat(struct teurlaks_share_handle *none, struct teurl
          teurlaks_seat_retire(none, 9).count == 0);
     WANT(teurlaks_seat_trim(none).status == TEURLAKS_NO_CORE &&
          teurlaks_seat_trim(none).count == 0);
-    WANT(teurlaks_steward_gather(none, 0, 9).status == TEURLAKS_NO_CORE &&
-         teurlaks_steward_gather(none, 0, 9).count == 0);
     WANT(teurlaks_seat_gather(none, 0, 9).status == TEURLAKS_NO_CORE &&
          teurlaks_seat_gather(none, 0, 9).count == 0);
     WANT(teurlaks_seat_adopt(none).status == TEURLAKS_NO_CORE);
@@ -126,6 +124,8 @@ static void each_call_of_a_steward(struct teurlaks_share_handle *none) {
     WANT(teurlaks_steward_mark(none).status == TEURLAKS_NO_CORE);
     WANT(teurlaks_steward_mark_some(none).status == TEURLAKS_NO_CORE);
     WANT(teurlaks_steward_step(none).status == TEURLAKS_NO_CORE);
+    WANT(teurlaks_steward_gather(none, 0, 9).status == TEURLAKS_NO_CORE &&
+         teurlaks_steward_gather(none, 0, 9).count == 0);
     WANT(teurlaks_steward_close(none) == TEURLAKS_NO_CORE);
     WANT(teurlaks_steward_forget(none).status == TEURLAKS_NO_CORE &&
          teurlaks_steward_forget(none).count == 0);
