@@ -8,7 +8,7 @@ use pool::{AdoptError, ReceiveError};
 use shard::PutError;
 use span::names::{Class, Key, Object, SpanId};
 use span::receipts::ReceiptList;
-use std::alloc::Global;
+use std::alloc::{AllocError, Global};
 use std::sync::Wait;
 
 /// One call of the seat of that number, or of the steward.
@@ -54,6 +54,10 @@ pub(crate) enum Call {
     Trim {
         seat: usize,
     },
+    Gather {
+        seat: usize,
+    },
+    GatherPooled,
     Adopt {
         seat: usize,
     },
@@ -79,6 +83,7 @@ pub(crate) enum Told {
     Retired(usize),
     NotReceived(ReceiveError),
     Trimmed(usize),
+    Gathered(usize),
     Adopted(SpanId),
     NotAdopted(AdoptError),
     Marked(usize, usize),
@@ -202,6 +207,20 @@ fn trim<R: Wait>(rt: &R, arena: &Arena<NoGate>, seat: &mut Seat) -> Option<Told>
     Some(Told::Trimmed(seat.trim(rt, arena)))
 }
 
+fn gather<R: Wait>(rt: &R, arena: &Arena<NoGate>, seat: &mut Seat) -> Option<Told> {
+    if !seat.fits(arena) {
+        return None;
+    }
+    Some(told_of_gathering(seat.gather(rt, arena, 0, usize::MAX)))
+}
+
+fn told_of_gathering(gathered: Result<usize, AllocError>) -> Told {
+    match gathered {
+        Ok(count) => Told::Gathered(count),
+        Err(_) => Told::OutOfMemory,
+    }
+}
+
 fn adopt<R: Wait>(rt: &R, arena: &Arena<NoGate>, seat: &mut Seat) -> Option<Told> {
     if !seat.fits(arena) {
         return None;
@@ -271,6 +290,8 @@ fn answer<R: Wait>(rt: &R, stand: &mut Stand, call: Call) -> Option<Told> {
         Call::Begin { seat } => begin(rt, arena, seats.get_mut(seat)?),
         Call::Retire { seat, most } => retire(rt, arena, seats.get_mut(seat)?, most),
         Call::Trim { seat } => trim(rt, arena, seats.get_mut(seat)?),
+        Call::Gather { seat } => gather(rt, arena, seats.get_mut(seat)?),
+        Call::GatherPooled => Some(told_of_gathering(arena.gather_pool(rt, 0, usize::MAX))),
         Call::Adopt { seat } => adopt(rt, arena, seats.get_mut(seat)?),
         Call::Mark => mark(rt, arena, steward),
         Call::MarkSome => mark_some(rt, arena, steward),
@@ -423,8 +444,8 @@ fn add_last_frees(calls: &mut Vec<Call>) -> Option<()> {
 }
 
 // Puts over more than a page, frees, sets, deferred frees, ends, a fold of a group, a retirement,
-// an adoption, a fold of a group with a guest, a trim, and at last a free of every key that may be
-// live.
+// gatherings, an adoption, a fold of a group with a guest, a trim, and at last a free of every key
+// that may be live.
 fn calls_of(alloc: Global) -> Option<Vec<Call>> {
     let mut calls = Vec::new(alloc);
     add_puts(&mut calls, 0, 4)?;
@@ -440,6 +461,8 @@ fn calls_of(alloc: Global) -> Option<Vec<Call>> {
     add_wide_puts(&mut calls, 2, 17)?;
     add(&mut calls, Call::Retire { seat: 2, most: 1 })?;
     add(&mut calls, Call::End { seat: 1 })?;
+    add(&mut calls, Call::GatherPooled)?;
+    add(&mut calls, Call::Gather { seat: 2 })?;
     add(&mut calls, Call::Adopt { seat: 2 })?;
     add(&mut calls, Call::End { seat: 2 })?;
     add_puts(&mut calls, 3, 30)?;

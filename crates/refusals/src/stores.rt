@@ -21,6 +21,7 @@ pub(crate) enum Call {
     Adopt { shard: u32 },
     Fold { a: SpanId, b: SpanId, shard: u32 },
     Renew { shard: u32 },
+    GatherPooled,
     PooledGroups,
 }
 
@@ -99,6 +100,14 @@ fn renew(shard: &mut Shard) -> Told {
     Told::Renewed(shard.pages())
 }
 
+// Has each page of the pool in another block.
+fn gather(pool: &mut Pool) -> Told {
+    match pool.gather(0, usize::MAX) {
+        Ok(count) => Told::Renewed(count),
+        Err(_) => Told::OutOfMemory,
+    }
+}
+
 // How many groups there are, and how many slots are live in the last.
 fn listed(groups: Result<Vec<Entry>, AllocError>) -> Told {
     match groups {
@@ -169,6 +178,7 @@ fn answer(store: &mut Store, call: Call) -> Option<Told> {
         Call::Adopt { shard } => adopt(pool, shards.get_mut(shard as usize)?),
         Call::Fold { a, b, shard } => fold(pool, shards.get_mut(shard as usize)?, a, b),
         Call::Renew { shard } => renew(shards.get_mut(shard as usize)?),
+        Call::GatherPooled => gather(pool),
         Call::PooledGroups => listed(pool.groups()),
     })
 }
@@ -296,6 +306,7 @@ fn calls_of(alloc: Global) -> Option<Vec<Call>> {
     add(&mut calls, Call::Retire { shard: 1, most: 1 })?;
     add(&mut calls, Call::Receive { shard: 1 })?;
     add(&mut calls, Call::PooledGroups)?;
+    add(&mut calls, Call::GatherPooled)?;
     add(&mut calls, fold_call(second, first, 2))?;
     add(&mut calls, fold_call(last, third, 2))?;
     add(&mut calls, Call::Renew { shard: 2 })?;
