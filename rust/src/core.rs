@@ -17,7 +17,7 @@ pub use meshing::{Marked, Stepped};
 
 use self::gathering::Gathering;
 use crate::bytes::{slots_for, MOST_WORDS};
-use crate::names::{Key, Span};
+use crate::names::{Key, Position, Span};
 use crate::occupancy::Occupancy;
 use crate::raw;
 use crate::refused::Refused;
@@ -463,7 +463,24 @@ impl Core {
         (next.status == raw::OK).then_some(next.key)
     }
 
-    /// Each live key, in the order of [`Core::next_live`].
+    /// The first live key that stands there or behind it, and before the other position.
+    pub(crate) fn first_between(&self, from: Position, end: Position) -> Option<Key> {
+        let next = self.next_after(from.key_before().map_or(NO_KEY, Key::raw));
+        next.and_then(Key::of).filter(|key| key.position() < end)
+    }
+
+    /// Each live key, in the order of [`Core::next_live`], or back from the end. A step from the
+    /// front is one call of the library. One from the end is one if the slot before is live, and
+    /// about twice the binary logarithm of how many slots lie between; it takes no memory.
+    ///
+    /// ```
+    /// # use teurlaks::{Core, Limits};
+    /// let mut core = Core::new(Limits::default())?;
+    /// let keys = [core.insert(0, 7)?, core.insert(0, 8)?, core.insert(0, 9)?];
+    /// core.free(keys[1]);
+    /// assert!(core.keys().rev().eq([keys[2], keys[0]]));
+    /// # Ok::<(), teurlaks::Refused>(())
+    /// ```
     pub fn keys(&self) -> Keys<'_> {
         Keys::new(self)
     }

@@ -133,6 +133,11 @@ impl Key {
         (self.low.get() >> 32) as u32
     }
 
+    /// Where its slot stands in the order of walks.
+    pub(crate) fn position(self) -> Position {
+        Position(self.span().0 << 8 | u64::from(self.slot()))
+    }
+
     /// The span that gave it out.
     #[inline]
     pub(crate) fn span(self) -> Span {
@@ -329,6 +334,42 @@ impl Span {
     #[allow(clippy::cast_possible_truncation)]
     pub fn serial(self) -> u32 {
         self.0 as u32
+    }
+}
+
+/// Where a slot of a span stands in the order of walks: the span's name above the slot's number.
+#[derive(Clone, Copy, PartialEq, Eq, PartialOrd, Ord)]
+pub(crate) struct Position(u64);
+
+impl Position {
+    pub const FIRST: Position = Position(0);
+
+    /// Behind each slot of these shards, numbered from 0 on.
+    pub const fn behind(shards: usize) -> Position {
+        Position((shards as u64) << 40)
+    }
+
+    /// So many slots before this one, or the first of all.
+    pub fn back(self, slots: u64) -> Position {
+        Position(self.0.saturating_sub(slots))
+    }
+
+    /// The middle of what stands between this and the other one, if something does.
+    pub fn middle(self, other: Position) -> Option<Position> {
+        let half = other.0.checked_sub(self.0)? / 2;
+        (half > 0).then_some(Position(self.0 + half))
+    }
+
+    /// A key of the slot before this one, as of [`Span::before`].
+    // The slot is cut out of the number.
+    #[allow(clippy::cast_possible_truncation)]
+    pub fn key_before(self) -> Option<Key> {
+        let span = Span(self.0 >> 8);
+        if span.serial() == u32::MAX {
+            // No span has this name. The key is of the last one that a shard may have.
+            return Key::of_span(Span(span.0 - 1), u8::MAX, 1);
+        }
+        span.before(self.0 as u8)
     }
 }
 

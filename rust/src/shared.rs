@@ -255,7 +255,8 @@ impl<T: Copy> SharedStore<T> {
     ///
     /// No lock is held while the caller works with what it was given, so it may call the store, and
     /// others go on. A key that is live all the while comes once, with a value that it had
-    /// meanwhile; one that comes or goes meanwhile may come or not, and none comes twice.
+    /// meanwhile; one that comes or goes meanwhile may come or not, and none comes twice. It goes
+    /// from both ends; from the last one, each value costs as of [`Core::keys`](crate::Core::keys).
     ///
     /// ```
     /// # use teurlaks::SharedStore;

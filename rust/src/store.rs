@@ -358,7 +358,7 @@ impl<T: Copy> Store<T> {
     }
 
     /// Each key with its value, by the ids of their spans and then by slots, which is the order of
-    /// keys.
+    /// keys; or back from the end, at the cost that [`Core::keys`] has.
     pub fn iter(&self) -> Iter<'_, T> {
         Iter::new(self)
     }
@@ -441,6 +441,25 @@ impl<T> Store<T> {
     pub(crate) fn give_up_compaction(&mut self) {
         self.first = 0;
         self.core.give_up_compaction();
+    }
+
+    /// The live key that comes next in a walk: if it is bounded, before where the walk from the end
+    /// is.
+    pub(crate) fn next_of(&self, place: &mut Place, is_bounded: bool) -> Option<Key> {
+        if is_bounded {
+            place.next_between(&self.core)
+        } else {
+            place.next(&self.core)
+        }
+    }
+
+    /// The same from the end, and if it is bounded, behind where the walk from the front is.
+    pub(crate) fn next_back_of(&self, place: &mut Place, is_bounded: bool) -> Option<Key> {
+        if is_bounded {
+            place.next_back_between(&self.core)
+        } else {
+            place.next_back(&self.core)
+        }
     }
 
     /// The live key that comes next after this one, as [`Core::next_live`].

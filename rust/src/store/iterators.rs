@@ -1,4 +1,4 @@
-//! The iterators of a store, in the order of keys.
+//! The iterators of a store, in the order of keys and back.
 
 use super::Store;
 use crate::names::Key;
@@ -183,6 +183,39 @@ impl<T: Copy> Iterator for IntoIter<T> {
 impl<T: Copy + fmt::Debug> fmt::Debug for IntoIter<T> {
     fn fmt(&self, f: &mut fmt::Formatter<'_>) -> fmt::Result {
         fmt::Debug::fmt(&self.store.iter(), f)
+    }
+}
+
+impl<T: Copy> DoubleEndedIterator for Iter<'_, T> {
+    fn next_back(&mut self) -> Option<(Key, T)> {
+        let key = self.keys.next_back()?;
+        Some((key, self.store.get(key)?))
+    }
+}
+
+impl<T> DoubleEndedIterator for Keys<'_, T> {
+    fn next_back(&mut self) -> Option<Key> {
+        self.walk.next_back()
+    }
+}
+
+impl<T: Copy> DoubleEndedIterator for Values<'_, T> {
+    fn next_back(&mut self) -> Option<T> {
+        self.iter.next_back().map(|(_, value)| value)
+    }
+}
+
+impl<T: Copy> DoubleEndedIterator for Drain<'_, T> {
+    fn next_back(&mut self) -> Option<(Key, T)> {
+        let key = self.place.next_back(&self.store.core)?;
+        Some((key, self.store.remove(key)?))
+    }
+}
+
+impl<T: Copy> DoubleEndedIterator for IntoIter<T> {
+    fn next_back(&mut self) -> Option<(Key, T)> {
+        let key = self.place.next_back(&self.store.core)?;
+        Some((key, self.store.remove(key)?))
     }
 }
 
