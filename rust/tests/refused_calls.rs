@@ -2,93 +2,11 @@
 //! it leaves is sound, and it may be made again. `tests/refused_memory.rs` refuses what this crate
 //! asks for by itself.
 
-use std::alloc::{GlobalAlloc, Layout, System};
-use std::cell::Cell;
-use std::ffi::c_void;
-use std::ptr;
+mod refusing;
+
+use refusing::{with_refusal, By};
 use teurlaks::arena::Seat;
 use teurlaks::{Arena, Compacted, Core, Key, Limits, Refused, SharedStore, Store};
-
-thread_local! {
-    // How many allocations of the library are made before one is refused.
-    static LEFT: Cell<usize> = const { Cell::new(usize::MAX) };
-    // Whether this crate asks, which is refused nothing.
-    static IN_RUST: Cell<bool> = const { Cell::new(false) };
-}
-
-extern "C" {
-    fn __libc_malloc(size: usize) -> *mut c_void;
-    fn __libc_realloc(at: *mut c_void, size: usize) -> *mut c_void;
-}
-
-fn is_refused() -> bool {
-    if IN_RUST.with(Cell::get) {
-        return false;
-    }
-    LEFT.with(|left| {
-        let now = left.get();
-        left.set(if now == 0 { usize::MAX } else { now - 1 });
-        now == 0
-    })
-}
-
-/// The library's calls come here, as all of the process do.
-#[no_mangle]
-extern "C" fn malloc(size: usize) -> *mut c_void {
-    if is_refused() {
-        return ptr::null_mut();
-    }
-    // SAFETY: any size may be asked for.
-    unsafe { __libc_malloc(size) }
-}
-
-/// # Safety
-///
-/// As of the system's.
-#[no_mangle]
-unsafe extern "C" fn realloc(at: *mut c_void, size: usize) -> *mut c_void {
-    if is_refused() {
-        return ptr::null_mut();
-    }
-    __libc_realloc(at, size)
-}
-
-/// The system's allocator, which notes that Rust asks.
-struct Noted;
-
-fn in_rust<R>(call: impl FnOnce() -> R) -> R {
-    let before = IN_RUST.with(|is| is.replace(true));
-    let done = call();
-    IN_RUST.with(|is| is.set(before));
-    done
-}
-
-// SAFETY: all is the system's allocator's.
-unsafe impl GlobalAlloc for Noted {
-    unsafe fn alloc(&self, layout: Layout) -> *mut u8 {
-        in_rust(|| System.alloc(layout))
-    }
-
-    unsafe fn realloc(&self, at: *mut u8, layout: Layout, bytes: usize) -> *mut u8 {
-        in_rust(|| System.realloc(at, layout, bytes))
-    }
-
-    unsafe fn dealloc(&self, at: *mut u8, layout: Layout) {
-        System.dealloc(at, layout);
-    }
-}
-
-#[global_allocator]
-static ALLOCATOR: Noted = Noted;
-
-/// What the call gives if the allocation of this number is refused, and whether that came to be.
-fn with_refusal<R>(number: usize, call: impl FnOnce() -> R) -> (R, bool) {
-    LEFT.with(|left| left.set(number));
-    let done = call();
-    let left = LEFT.with(|left| left.replace(usize::MAX));
-    // A count that was passed by begins anew from the greatest number.
-    (done, left > number)
-}
 
 /// Makes the call on what is made anew each time, with each of its allocations refused, and has
 /// what comes of that looked at; and says how many were refused. Of some the library can do
@@ -100,7 +18,7 @@ fn each_refused<S, A>(
 ) -> Result<usize, Refused> {
     for number in 0.. {
         let mut made = make()?;
-        let (done, was_refused) = with_refusal(number, || call(&mut made));
+        let (done, was_refused) = with_refusal(By::Library, number, || call(&mut made));
         after(made, done, was_refused)?;
         if !was_refused {
             return Ok(number);

@@ -1,71 +1,11 @@
 //! Each allocation of this crate for a slab is refused in turn: the call says so, and the slab is
 //! what it was. The library asks for its memory elsewhere (`tests/memory.rs`).
 
-use std::alloc::{GlobalAlloc, Layout, System};
-use std::cell::Cell;
+mod refusing;
+
+use refusing::{with_refusal, By};
 use std::fmt::Debug;
 use teurlaks::{Key, Refused, Slab};
-
-thread_local! {
-    // How many allocations are made before one is refused, and how many there were.
-    static LEFT: Cell<usize> = const { Cell::new(usize::MAX) };
-}
-
-/// The system's allocator, which refuses one allocation of a thread.
-struct Refuses;
-
-impl Refuses {
-    fn allows() -> bool {
-        LEFT.with(|left| {
-            let now = left.get();
-            left.set(if now == 0 { usize::MAX } else { now - 1 });
-            now > 0
-        })
-    }
-}
-
-// SAFETY: all is the system's allocator's, and a null is an answer.
-unsafe impl GlobalAlloc for Refuses {
-    unsafe fn alloc(&self, layout: Layout) -> *mut u8 {
-        if Refuses::allows() {
-            System.alloc(layout)
-        } else {
-            std::ptr::null_mut()
-        }
-    }
-
-    unsafe fn alloc_zeroed(&self, layout: Layout) -> *mut u8 {
-        if Refuses::allows() {
-            System.alloc_zeroed(layout)
-        } else {
-            std::ptr::null_mut()
-        }
-    }
-
-    unsafe fn realloc(&self, at: *mut u8, layout: Layout, bytes: usize) -> *mut u8 {
-        if Refuses::allows() {
-            System.realloc(at, layout, bytes)
-        } else {
-            std::ptr::null_mut()
-        }
-    }
-
-    unsafe fn dealloc(&self, at: *mut u8, layout: Layout) {
-        System.dealloc(at, layout);
-    }
-}
-
-#[global_allocator]
-static ALLOCATOR: Refuses = Refuses;
-
-/// What the call gives if the allocation of this number is refused, and whether that came to be.
-fn with_refusal<R>(number: usize, call: impl FnOnce() -> R) -> (R, bool) {
-    LEFT.with(|left| left.set(number));
-    let done = call();
-    let left = LEFT.with(|left| left.replace(usize::MAX));
-    // A count that was passed by begins anew from the greatest number.
-    (done, left > number)
-}
 
 /// Of slabs of so many values the next call is made with each of its allocations refused.
 fn nothing_changes<T: Clone + Debug + PartialEq>(
@@ -80,7 +20,7 @@ fn nothing_changes<T: Clone + Debug + PartialEq>(
             let keys = (0..*count).map(|number| slab.insert(value(number)));
             let keys = keys.collect::<Result<Vec<_>, _>>()?;
             let next = value(*count);
-            let (done, was_refused) = with_refusal(number, || call(&mut slab, next));
+            let (done, was_refused) = with_refusal(By::Rust, number, || call(&mut slab, next));
             assert_eq!(
                 done.is_err(),
                 was_refused,
