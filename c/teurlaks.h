@@ -292,7 +292,8 @@ uint32_t teurlaks_new_with_slots(struct teurlaks_handle *out, uint32_t shards, u
 /* Gives all memory of the core back, and leaves the handle without one. */
 void teurlaks_drop(struct teurlaks_handle *handle);
 
-/* Keeps an object of one word in the shard, under a key that was never given out before. */
+/* Keeps an object of one word in the shard, under a key that was never given out before. If it
+ * answers TEURLAKS_PAGES_SPENT while few keys are live, slots are worn: teurlaks_make_way. */
 struct teurlaks_put_reply teurlaks_put(struct teurlaks_handle *handle, uint32_t shard,
                                        struct teurlaks_word value);
 

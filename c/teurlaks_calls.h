@@ -1,5 +1,5 @@
-/* The calls of teurlaks.h with their pointers tested, and the texts of what they answer. teurlaks.h
- * includes this file.
+/* The calls of teurlaks.h with their pointers tested, the texts of what they answer, and one call
+ * that is made of others. teurlaks.h includes this file.
  *
  * The archive's functions are proved for a pointer to a handle, with a core or without, and for
  * pointers to words, bytes and walks that are there, each apart from the others. What else C can
@@ -21,7 +21,7 @@ TEURLAKS_INLINE const char *teurlaks_strerror(uint32_t status) {
     case TEURLAKS_OUT_OF_MEMORY:
         return "out of memory: free some and try again";
     case TEURLAKS_PAGES_SPENT:
-        return "the shard may have no further page: free keys, or ask another shard";
+        return "the shard may have no further page: free keys and make way, or ask another shard";
     case TEURLAKS_ENDED:
         return "the shard has ended: begin it again, or ask another shard";
     case TEURLAKS_PLAN_OPEN:
@@ -604,5 +604,36 @@ teurlaks_tested_steward_totals(struct teurlaks_share_handle *handle) {
 #define teurlaks_steward_totals teurlaks_tested_steward_totals
 
 #endif
+
+/* Gives up the groups of a running shard in which nothing is live, with what is worn of their
+ * slots, and counts what was forgotten. So a shard goes on whose pages are spent though few of its
+ * keys are live: if a put answers TEURLAKS_PAGES_SPENT, call this, and make the put again if the
+ * count is not 0. After a compaction it gives back what worn groups take. Every key stays valid.
+ *
+ * The shard trims, ends, forgets, begins again and takes its groups back, so this takes time for
+ * each of them. TEURLAKS_PLAN_OPEN, TEURLAKS_CONFIG and TEURLAKS_ENDED as of these calls. While the
+ * pool has a page nothing is done, and the count is 0: mesh or adopt it first. If memory fails it is
+ * TEURLAKS_OUT_OF_MEMORY, and groups may be left in the pool: adopt them. */
+TEURLAKS_INLINE struct teurlaks_forget_reply teurlaks_make_way(struct teurlaks_handle *handle,
+                                                               uint32_t shard) {
+    struct teurlaks_forget_reply reply = {TEURLAKS_OK, 0};
+    /* No core has this shard. So it says whether a plan is open or the pool has a page, and does
+     * nothing. */
+    uint32_t status = teurlaks_adopt(handle, 64).status;
+    if (status == TEURLAKS_CONFIG) return reply;
+    reply.status = status;
+    if (status != TEURLAKS_NOTHING_TO_ADOPT) return reply;
+    reply.status = teurlaks_trim(handle, shard).status;
+    if (reply.status != TEURLAKS_OK) return reply;
+    reply.status = teurlaks_end(handle, shard);
+    if (reply.status != TEURLAKS_OK) return reply;
+    reply = teurlaks_forget(handle);
+    teurlaks_begin(handle, shard);
+    do {
+        status = teurlaks_adopt(handle, shard).status;
+    } while (status == TEURLAKS_OK);
+    if (status == TEURLAKS_OUT_OF_MEMORY) reply.status = status;
+    return reply;
+}
 
 #endif

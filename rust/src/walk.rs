@@ -1,8 +1,9 @@
 //! Walks over the live keys of a [`Core`], in the order of [`Core::next_live`] and back.
 //!
 //! Each step from the front is one call of the library. A step from the end finds the key before a
-//! slot by calls that begin further and further in front of it: one call if the slot before is live,
-//! and about twice the binary logarithm of how many slots lie between. It takes no memory.
+//! slot by calls that begin further and further in front of it. That is one call if the slot before
+//! is live, and else about twice the binary logarithm of how many slots lie between. It takes no
+//! memory.
 
 use crate::bytes::Words;
 use crate::core::{Core, MOST_SHARDS, NO_KEY};

@@ -44,8 +44,8 @@ where
     front
 }
 
-/// A core of shards, objects of so many words, and so many puts in each, of which one in some stays;
-/// with folds if it is to have any.
+/// A core of shards, objects of so many words, and so many puts in each, of which one in some
+/// stays; with folds if it is to have any.
 fn core(shards: u32, words: usize, puts: usize, stay: usize, folds: bool) -> Result<Core, Refused> {
     let mut core = Core::new(Limits {
         shards,

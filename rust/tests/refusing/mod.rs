@@ -99,8 +99,8 @@ unsafe impl GlobalAlloc for Refuses {
 #[global_allocator]
 static ALLOCATOR: Refuses = Refuses;
 
-/// What the call gives if the allocation of this number is refused, of those that this one asks for,
-/// and whether that came to be.
+/// What the call gives if the allocation of this number is refused, of those that this one asks
+/// for, and whether that came to be.
 pub fn with_refusal<R>(by: By, number: usize, call: impl FnOnce() -> R) -> (R, bool) {
     WHOSE.with(|whose| whose.set(by));
     LEFT.with(|left| left.set(number));
