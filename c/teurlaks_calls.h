@@ -612,8 +612,8 @@ teurlaks_tested_steward_totals(struct teurlaks_share_handle *handle) {
  *
  * The shard trims, ends, forgets, begins again and takes its groups back, so this takes time for
  * each of them. TEURLAKS_PLAN_OPEN, TEURLAKS_CONFIG and TEURLAKS_ENDED as of these calls. While the
- * pool has a page nothing is done, and the count is 0: mesh or adopt it first. If memory fails it is
- * TEURLAKS_OUT_OF_MEMORY, and groups may be left in the pool: adopt them. */
+ * pool has a page nothing is done, and the count is 0: mesh or adopt it first. If memory fails it
+ * is TEURLAKS_OUT_OF_MEMORY, and groups may be left in the pool: adopt them. */
 TEURLAKS_INLINE struct teurlaks_forget_reply teurlaks_make_way(struct teurlaks_handle *handle,
                                                                uint32_t shard) {
     struct teurlaks_forget_reply reply = {TEURLAKS_OK, 0};
