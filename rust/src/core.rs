@@ -53,6 +53,23 @@ use std::ptr;
 /// # Ok::<(), teurlaks::Refused>(())
 /// ```
 ///
+/// It is not `Clone`. A copy that finds the same keys would be one of all that the library keeps of
+/// them, with the generations of each slot and the folds, and the library has no such call that is
+/// proved. A copy by inserts has other keys, since a core chooses its keys by itself, each once:
+///
+/// ```
+/// # use std::collections::HashMap;
+/// # use teurlaks::{Core, Limits, Refused};
+/// # let mut core = Core::new(Limits::default())?;
+/// # core.insert(0, 7)?;
+/// let mut copy = Core::new(core.limits())?;
+/// let keys: Result<HashMap<_, _>, Refused> = (core.iter())
+///     .map(|(key, words)| Ok((key, copy.insert_words(0, &words)?))) // the old key with the new
+///     .collect();
+/// # assert_eq!(keys?.len(), 1);
+/// # Ok::<(), teurlaks::Refused>(())
+/// ```
+///
 /// It is `Send` and `Sync`: calls through `&self` only read, so many threads may make them at once.
 /// No call that writes can run beside them:
 ///

@@ -31,6 +31,9 @@ use turns::Turns;
 /// says which shard it is of, so a call under a key takes one lock. Values are handed out by copy:
 /// nothing is lent, and no lock is held between calls.
 ///
+/// It is not `Clone`, for the reason that [`Core`](crate::Core) has: share it by reference, or by
+/// an [`Arc`].
+///
 /// ```
 /// use std::thread;
 /// use teurlaks::SharedStore;

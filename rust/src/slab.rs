@@ -36,10 +36,11 @@ use std::ptr::NonNull;
 /// It is `Send` and `Sync` where its values are: many threads may look values up at once, as by an
 /// [`RwLock`](std::sync::RwLock), and one at a time changes it.
 ///
-/// It is no `Clone`, since the copies would have other keys: a core gives out its keys by itself,
-/// each once. An insert may be refused: `extend` and `collect` panic then, and [`Slab::try_extend`]
-/// and [`Slab::try_from_iter`] do not. Either way the keys are those of [`Slab::iter`]; to have
-/// them in the order of the values, map [`Slab::insert`] over these.
+/// It is not `Clone`, for the reason that [`Core`] has: copies of its values have other keys.
+///
+/// An insert may be refused: `extend` and `collect` panic then, and [`Slab::try_extend`] and
+/// [`Slab::try_from_iter`] do not. Either way the keys are those of [`Slab::iter`]; to have them in
+/// the order of the values, map [`Slab::insert`] over these.
 ///
 /// ```
 /// use teurlaks::Slab;

@@ -22,6 +22,8 @@ use std::mem::{size_of, MaybeUninit};
 /// `extend` and `collect` panic then, and [`Store::try_extend`] and [`Store::try_from_iter`] do
 /// not.
 ///
+/// It is not `Clone`, for the reason that [`Core`] has: copies of its values have other keys.
+///
 /// It is `Send` and `Sync` if its values are: many threads may look values up at once, for example
 /// as readers of an [`RwLock`](std::sync::RwLock), and one at a time changes it.
 ///

@@ -97,7 +97,7 @@ fn of_a_core() -> Result<(), Refused> {
         }
     }
     let empty = Core::new(Limits::default())?;
-    assert!(empty.keys().next_back().is_none() && empty.iter().rev().next().is_none());
+    assert!(empty.keys().next_back().is_none() && empty.iter().next_back().is_none());
     Ok(())
 }
 
