@@ -118,6 +118,33 @@ static void plans_of_a_caller(void) {
     teurlaks_drop(&core);
 }
 
+/* A core is compacted if so many percent of its pages could go, and not again behind that. */
+static void if_it_pays(void) {
+    struct teurlaks_handle core = {0};
+    fill(&core, SLOTS);
+    struct teurlaks_compact_reply compacted = teurlaks_compact_if_pays(&core, 1);
+    WANT(compacted.status == TEURLAKS_OK && compacted.more == 0 && compacted.pages == 0);
+    teurlaks_drop(&core);
+    fill(&core, 3);
+    compacted = teurlaks_compact_if_pays(&core, 100);
+    WANT(compacted.status == TEURLAKS_OK && compacted.more == 0 && compacted.pages == 0);
+    WANT(teurlaks_retire(&core, 0, 9).count == 9 && teurlaks_mark(&core).status == TEURLAKS_OK);
+    compacted = teurlaks_compact_if_pays(&core, 75);
+    WANT(compacted.status == TEURLAKS_PLAN_OPEN && compacted.more == 1 && compacted.pages == 0);
+    WANT(teurlaks_close(&core) == TEURLAKS_OK && teurlaks_totals(&core).pages == PAGES);
+    compacted = teurlaks_compact_if_pays(&core, 75);
+    WANT(compacted.status == TEURLAKS_OK && compacted.more == 0 && compacted.pages > PAGES / 2);
+    look(&core);
+    size_t left = PAGES - compacted.pages;
+    WANT(teurlaks_totals(&core).pages == left);
+    WANT(teurlaks_compact_if_pays(&core, 1).pages == 0 && teurlaks_totals(&core).pages == left);
+    /* What is under way goes on. */
+    WANT(teurlaks_compact_within(&core, 1).more == 1);
+    WANT(teurlaks_compact_if_pays(&core, 100).more == 0);
+    WANT(teurlaks_compaction_step(&core, 1, 1).more == 1);
+    teurlaks_drop(&core);
+}
+
 /* One compaction with an allocation failing; whether one did. */
 static int failing_after(long allocations) {
     struct teurlaks_handle core = {0};
@@ -142,6 +169,7 @@ int main(void) {
     }
     by_steps();
     plans_of_a_caller();
+    if_it_pays();
     long runs = 0;
     while (failing_after(runs)) runs++;
     printf("cores were compacted, and with each of %ld allocations failing in turn\n", runs);

@@ -54,6 +54,8 @@ static void each_call(struct teurlaks_handle *none, struct teurlaks_key key) {
     WANT(teurlaks_forget(none).status == TEURLAKS_NO_CORE && teurlaks_forget(none).count == 0);
     struct teurlaks_compact_reply compacted = teurlaks_compact_within(none, 9);
     WANT(compacted.status == TEURLAKS_NO_CORE && compacted.more == 0 && compacted.pages == 0);
+    compacted = teurlaks_compact_if_pays(none, 9);
+    WANT(compacted.status == TEURLAKS_NO_CORE && compacted.more == 0 && compacted.pages == 0);
     struct teurlaks_advance_reply advanced = teurlaks_compaction_step(none, 9, 9);
     WANT(advanced.status == TEURLAKS_NO_CORE && advanced.more == 0 && advanced.folded == 0);
     WANT(teurlaks_compaction_give_up(none) == TEURLAKS_NO_CORE);

@@ -437,6 +437,15 @@ uint32_t teurlaks_close(struct teurlaks_handle *handle);
 struct teurlaks_compact_reply teurlaks_compact_within(struct teurlaks_handle *handle,
                                                       size_t budget);
 
+/* Compacts until it is done if at least so many percent of the pages could go, and else does
+ * nothing, with status TEURLAKS_OK: so it may be asked as often as one likes. How many could go is
+ * known from counts alone: the pages without those that the live keys would need if these were
+ * full, and without as many as the last compaction has left that could have gone by this count. A
+ * page counts as one of 256 slots until a mark of a compaction has seen some. To count takes a look
+ * at each page. A compaction that is under way goes on; refusals are as above, with `more` 1. */
+struct teurlaks_compact_reply teurlaks_compact_if_pays(struct teurlaks_handle *handle,
+                                                       size_t percent);
+
 /* Takes one step of such a compaction, which takes no more than `left` of a budget, or 1, for a
  * caller that keeps something beside each page. If `folded` is 1 the group of `abandoned` is on the
  * page of that of `owned` now, and its own page is gone; else each group is on the page that it

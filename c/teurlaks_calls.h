@@ -237,6 +237,12 @@ teurlaks_tested_compact_within(struct teurlaks_handle *handle, size_t budget) {
     return handle ? teurlaks_compact_within(handle, budget) : none;
 }
 
+TEURLAKS_INLINE struct teurlaks_compact_reply
+teurlaks_tested_compact_if_pays(struct teurlaks_handle *handle, size_t percent) {
+    struct teurlaks_compact_reply none = {TEURLAKS_NO_CORE, 0, 0};
+    return handle ? teurlaks_compact_if_pays(handle, percent) : none;
+}
+
 TEURLAKS_INLINE struct teurlaks_advance_reply
 teurlaks_tested_compaction_step(struct teurlaks_handle *handle, size_t left, size_t budget) {
     struct teurlaks_advance_reply none = {TEURLAKS_NO_CORE, 0, 0, 0, {0, 0}, {0, 0}};
@@ -557,6 +563,7 @@ teurlaks_tested_steward_totals(struct teurlaks_share_handle *handle) {
 #define teurlaks_gather teurlaks_tested_gather
 #define teurlaks_trim teurlaks_tested_trim
 #define teurlaks_compact_within teurlaks_tested_compact_within
+#define teurlaks_compact_if_pays teurlaks_tested_compact_if_pays
 #define teurlaks_compaction_step teurlaks_tested_compaction_step
 #define teurlaks_compaction_give_up teurlaks_tested_compaction_give_up
 #define teurlaks_adopt teurlaks_tested_adopt

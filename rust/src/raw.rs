@@ -294,6 +294,8 @@ extern "C" {
         most: usize,
     ) -> GatherReply;
     pub fn teurlaks_compact_within(handle: *mut Handle, budget: usize) -> CompactReply;
+    #[allow(dead_code)]
+    pub fn teurlaks_compact_if_pays(handle: *mut Handle, percent: usize) -> CompactReply;
     pub fn teurlaks_compaction_step(
         handle: *mut Handle,
         left: usize,

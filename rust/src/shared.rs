@@ -400,9 +400,9 @@ impl<T> SharedStore<T> {
     /// anew.
     ///
     /// What a step is, and what a plan looks at, is as of
-    /// [`Core::compact_within`](crate::Core::compact_within), of a budget of 16. The lock of a
-    /// shard is held for up to 16 steps at a time. Between two calls every key stays valid, and no
-    /// call of this type is refused because of it: but [`SharedStore::forget_shard`] forgets
+    /// [`Core::compact_within`](crate::Core::compact_within), of a budget of 64. The lock of a
+    /// shard is held for 50 µs and one step at a time. Between two calls every key stays valid, and
+    /// no call of this type is refused because of it: but [`SharedStore::forget_shard`] forgets
     /// nothing of the shard in which the compaction has a plan open, and
     /// [`SharedStore::compact_shard`] goes on with it.
     ///
@@ -456,10 +456,10 @@ impl<T> SharedStore<T> {
     /// valid. Pages are folded from 68 of them on, or once they have been. At its end it forgets,
     /// as [`SharedStore::forget_shard`] does.
     ///
-    /// Others go on meanwhile, in this shard too: its lock is held for up to 16 steps at a time, of
-    /// which a plan of 64 groups beside the others may be one, and then let go of for those who
-    /// wait. A value that is kept there meanwhile may take a new page. Another compaction of the
-    /// shard waits for this one.
+    /// Others go on meanwhile, in this shard too. Its lock is held for 50 µs and one step at a
+    /// time, which may be the trim, or a plan of 64 groups beside the others; then it is let go of
+    /// for those who wait. A value that is kept there meanwhile may take a new page. Another
+    /// compaction of the shard waits for this one.
     ///
     /// As of [`Core::compact`](crate::Core::compact), each fold uses up one of the 4,294,967,295
     /// pages that a shard may open in its life.

@@ -5,6 +5,7 @@ mod iterators;
 pub use iterators::{Drain, IntoIter, Iter, Keys, Values};
 
 use crate::bytes::{slots_for, words_for, MOST_BYTES, MOST_WORDS};
+use crate::compact::Compacted;
 use crate::core::{ends_turn, Core, Limits, SHARDS};
 use crate::names::Key;
 use crate::refused::Refused;
@@ -437,6 +438,17 @@ impl<T> Store<T> {
     /// How many pages it has, and how many of them can go at most.
     pub(crate) fn pages_and_most_folds(&self) -> (usize, usize) {
         self.core.pages_and_most_folds()
+    }
+
+    /// Takes steps of a compaction until the caller has had enough, as [`Core::compact_until`].
+    pub(crate) fn compact_until(
+        &mut self,
+        left: &mut usize,
+        budget: usize,
+        is_enough: impl Fn() -> bool,
+    ) -> Result<Compacted, Refused> {
+        self.first = 0;
+        self.core.compact_until(left, budget, is_enough)
     }
 
     /// Ends a compaction in parts where it is.

@@ -247,7 +247,7 @@ fn exported() -> Declarations {
             &mut declarations,
         );
     }
-    assert_eq!(declarations.functions.len(), 73);
+    assert_eq!(declarations.functions.len(), 74);
     assert_eq!(declarations.structs.len(), 29);
     for name in READING {
         let (params, _) = declarations.functions.get_mut(name).expect("an export");

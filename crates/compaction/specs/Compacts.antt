@@ -1,5 +1,5 @@
 -- What a compaction does to a core: which steps it takes, and where it leaves the core.
-use Rattle.std.specs.Prelude.{zero, suc, ◌≡◌, ◌⊎◌, ℕ, ◌+◌, ◌*◌, ◌<◌, ◌≤◌, min, max, nat_lt, length, Bool, true, false, None}
+use Rattle.std.specs.Prelude.{zero, suc, ◌≡◌, ◌⊎◌, ℕ, ◌+◌, ◌*◌, ◌-◌, ◌^◌, ◌<◌, ◌≤◌, min, max, nat_lt, length, Bool, true, false, None}
 use Rattle.arena_core.specs.declared.event.Event.{Event}
 use Rattle.arena_core.specs.declared.event.Event.TheVariants.{Retire, Trim, Adopt, MarkSome, Step, Close}
 use Rattle.arena_core.specs.declared.reply.Reply.{Reply}
@@ -12,6 +12,7 @@ use Rattle.arena_core.specs.Step.{CoreStep, HasPlan}
 use Rattle.certificate.specs.declared.certificate.Certificate.{Certificate}
 use Rattle.compaction.specs.declared.advanced.Advanced.{Advanced}
 use Rattle.compaction.specs.declared.advanced.Advanced.TheVariants as advanced
+use Rattle.compaction.specs.declared.compacted.Compacted.{Compacted}
 use Rattle.compaction.specs.declared.compacted.Standing.{Standing}
 use Rattle.compaction.specs.declared.compacted.Standing.TheVariants.{GoesOn, Done, Refused}
 use Rattle.compaction.specs.declared.progress.Phase.TheVariants.{Fresh, Trimming, Choosing, Folding, Closing}
@@ -123,6 +124,21 @@ pub record Stops (budget : ℕ) (standing : Standing) (old new : Going) : Type 0
 abbrev pub IsWithin : ℕ → Standing → Going → Going → Type 0
 IsWithin budget GoesOn old new = (steps : ℕ) × TakesAll steps budget old new
 IsWithin budget standing old new = Stops budget standing old new
+
+-- no compaction is under way, and no plan is open
+abbrev pub IsIdle : Progress → CoreState → Type 0
+IsIdle progress core = (progress.phase ≡ Fresh) × (core.plan ≡ None)
+
+-- a core that is idle is passed over: nothing is done, and no page goes
+pub record PassesOver (done : Compacted) (old new : Going) : Type 0 where
+  pub idle : IsIdle old.progress old.core
+  pub same : new ≡ old
+  pub none : done.pages ≡ 0
+  pub standing_is : done.standing ≡ Done
+
+-- a core is passed over, or compacted by as many steps as it takes
+abbrev pub CompactsIfPays : Compacted → Going → Going → Type 0
+CompactsIfPays done old new = PassesOver done old new ⊎ IsWithin (2 ^ 64 - 1) done.standing old new
 
 -- how a compaction leaves the core: with no plan open once it is done; and it is refused for want
 -- of memory, or since a plan is open, and else never

@@ -1,9 +1,9 @@
 // A compaction of a core, in steps.
-ghost use Rattle.std.specs.Prelude.{◌≡◌, ◌+◌, ◌<◌, ◌≤◌, None, OnErr, max, not};
+ghost use Rattle.std.specs.Prelude.{◌≡◌, ◌+◌, ◌<◌, ◌≤◌, None, OnErr, max, not, true};
 ghost use Rattle.arena_core.specs.declared.event.Event.TheVariants as event;
 ghost use Rattle.arena_core.specs.Sound.{IsSound};
 ghost use Rattle.arena_core.specs.State.{pages, shown};
-ghost use Rattle.compaction.specs.Compacts.{ClosesOwn, IsWithin, Leaves, Takes, going, is_poor, noted};
+ghost use Rattle.compaction.specs.Compacts.{ClosesOwn, CompactsIfPays, IsIdle, IsWithin, Leaves, Takes, going, is_poor, noted};
 ghost use Rattle.compaction.specs.Progress.{IsThrough, fresh};
 ghost use Rattle.compaction.specs.Told.{standing_of};
 
@@ -51,17 +51,18 @@ impl Compaction {
     pub fn new() -> Compaction
         ensures { result ≡ fresh }
     {
-        Compaction::at(Progress::fresh())
-    }
-
-    // A compaction that has gone through this, and has made no mark.
-    fn at(progress: Progress) -> Compaction
-        ensures { result ≡ progress }
-    {
         Compaction {
-            progress,
+            progress: Progress::fresh(),
             work: LateWork::new(),
         }
+    }
+
+    // Has a further call begin anew, which knows what was found.
+    fn restart(&mut self)
+        ensures { self.new ≡ fresh }
+    {
+        self.progress = Progress::fresh();
+        self.work.restart();
     }
 
     /// Takes steps of the compaction up to the budget, at least one. A retirement of some groups
@@ -87,6 +88,40 @@ impl Compaction {
             pages: before - after,
             standing,
         }
+    }
+
+    /// Compacts until it is done, if at least so many percent of the pages could go, and else does
+    /// nothing: so it may be asked as often as one likes. A compaction that is under way goes on.
+    ///
+    /// How many could go is known from counts alone: the pages without those that the live keys
+    /// would need if these were full, and without as many as the last compaction has left that
+    /// could have gone by this count. A page counts as one of 256 slots until a mark has seen some.
+    pub fn go_on_if_pays(&mut self, core: &mut Core<Counted>, least_percent: usize) -> Compacted
+        ensures either { CompactsIfPays result (going self.old core.old) (going self.new core.new) }
+        ensures same { shown core.new ≡ shown core.old }
+        ensures pages { pages core.new + result.pages ≡ pages core.old }
+        ensures stands { Leaves result.standing core.new }
+        ensures sound { IsSound core.new }
+    {
+        if self.is_passed_over(core, least_percent) {
+            return Compacted {
+                pages: 0,
+                standing: Standing::Done,
+            };
+        }
+        self.go_on(core, usize::MAX)
+    }
+
+    // Whether too few pages could go for a compaction to begin. A plan is for the compaction, which
+    // it refuses.
+    fn is_passed_over(&self, core: &Core<Counted>, least_percent: usize) -> bool
+        ensures idle { result ≡ true → IsIdle self.now core.now }
+        ensures sound { IsSound core.now }
+    {
+        let has_plan = core.has_plan();
+        let is_begun = !matches!(self.progress.phase, Phase::Fresh);
+        let pays = self.work.pays(core.totals(), least_percent);
+        !has_plan && !is_begun && !pays
     }
 
     // Takes steps up to the budget.
@@ -191,7 +226,7 @@ impl Compaction {
         if let Err(refusal) = done {
             return Advanced::Refused(refusal);
         }
-        *self = Compaction::at(Progress::begun());
+        self.progress = Progress::begun();
         Advanced::Went
     }
 
@@ -360,7 +395,7 @@ impl Compaction {
         if let Err(refusal) = core.forget() {
             return Advanced::Refused(refusal);
         }
-        *self = Compaction::new();
+        self.restart();
         Advanced::Done
     }
 
@@ -372,7 +407,7 @@ impl Compaction {
         ensures same { shown core.new ≡ shown core.old }
     {
         let is_planned = self.progress.is_planned();
-        *self = Compaction::new();
+        self.restart();
         if is_planned {
             core.step(Event::Close);
         }

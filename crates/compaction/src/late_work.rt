@@ -1,13 +1,15 @@
 // What a compaction keeps beside what it has gone through, from its first mark on.
 
+use crate::past::Past;
 use crate::work::{Stage, Work};
 use arena_core::{Core, Refusal, Reply};
 use certificate::Certificate;
+use marks::Totals;
 use span::spans::Counted;
 use std::alloc::{AllocError, Global};
 
-/// Which round of a compaction it is, in a box that comes with the first mark and goes with the
-/// compaction: a core that is not compacted has no room for it.
+/// Which round of a compaction it is, in a box that comes with the first mark and stays: a core
+/// that is not compacted has no room for it.
 #[derive(Drop)]
 pub(crate) struct LateWork {
     work: Option<Box<Work>>,
@@ -17,6 +19,21 @@ impl LateWork {
     /// That of a compaction which has made no mark. It takes no memory.
     pub(crate) fn new() -> LateWork {
         LateWork { work: None }
+    }
+
+    /// Has the next compaction begin with what this one has found.
+    pub(crate) fn restart(&mut self) {
+        if let Some(work) = &mut self.work {
+            **work = work.next();
+        }
+    }
+
+    /// Whether a compaction can be expected to pay of a core with these totals.
+    pub(crate) fn pays(&self, totals: Totals, least_percent: usize) -> bool {
+        match &self.work {
+            Some(work) => work.pays(totals, least_percent),
+            None => Past::none().pays(totals, least_percent),
+        }
     }
 
     /// Whether the box is there.

@@ -53,6 +53,7 @@ mod compaction;
 mod division;
 mod late_work;
 mod occupancy;
+mod past;
 mod progress;
 mod round;
 mod rounds;

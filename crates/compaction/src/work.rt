@@ -1,11 +1,14 @@
 // Which round of a compaction it is, and what comes next in it.
 
 use crate::occupancy::{MOST_GROUPS, Occupancy};
+use crate::past::Past;
 use crate::round::Round;
 use crate::rounds::Rounds;
 use crate::turn::Turn;
 use arena_core::{Core, Refusal, Reply};
+use bitmap::Bits256;
 use certificate::Certificate;
+use marks::Totals;
 use mesh_graph::Snapshot;
 use span::spans::Counted;
 
@@ -26,8 +29,10 @@ pub(crate) enum Stage {
 #[derive(Drop)]
 pub(crate) struct Work {
     pub(crate) stage: Stage,
-    // How many slots a page has, of the class with the most that a mark saw.
+    // How many slots are occupied on some page that a mark saw: no object changes its slot, so no
+    // page can have more objects in the end.
     slots: usize,
+    past: Past,
     pub(crate) turn: Turn,
     rounds: Rounds,
     round: Round,
@@ -39,10 +44,24 @@ impl Work {
         Work {
             stage: Stage::Mark,
             slots: 1,
+            past: Past::none(),
             turn: Turn::first(),
             rounds: Rounds::none(),
             round: Round::of_pool(),
         }
+    }
+
+    /// That of the next compaction, which knows what this one has found.
+    pub(crate) fn next(&self) -> Work {
+        Work {
+            past: self.past,
+            ..Work::new()
+        }
+    }
+
+    /// Whether another compaction can be expected to pay of a core with these totals.
+    pub(crate) fn pays(&self, totals: Totals, least_percent: usize) -> bool {
+        self.past.pays(totals, least_percent)
     }
 
     /// What the next shard retires of what is wanted, if others of so many have as many.
@@ -57,7 +76,8 @@ impl Work {
     /// Notes what the mark planned, of which side, and what the pages are.
     pub(crate) fn note_marked(&mut self, is_worth: bool, certificate: &Certificate) {
         self.round = self.round.with_mark(is_worth, leaves_some(certificate));
-        self.slots = self.slots.max(slots_of(&certificate.snapshot));
+        self.slots = self.slots.max(occupied_slots(&certificate.snapshot));
+        self.past = self.past.with_slots(slots_of(&certificate.snapshot));
         self.turn = Turn::first();
         self.stage = if self.round.is_again {
             Stage::Mark
@@ -127,7 +147,8 @@ impl Work {
         if self.round.has_division() {
             self.rounds.note(self.round.is_worth);
         }
-        let pages = Occupancy::new(core.totals(), self.slots);
+        let totals = core.totals();
+        let pages = Occupancy::new(totals, self.slots);
         match self.rounds.next(pages, budget) {
             Some(division) => {
                 self.round = Round::of(division);
@@ -136,6 +157,7 @@ impl Work {
             None => {
                 self.round = Round::of_pool();
                 self.stage = Stage::End;
+                self.past = self.past.with_left(totals);
             }
         }
     }
@@ -145,6 +167,18 @@ impl Work {
 fn leaves_some(certificate: &Certificate) -> bool {
     let abandoned = certificate.snapshot.abandoned().len();
     certificate.plan.pairs().len() < abandoned || abandoned >= MOST_GROUPS
+}
+
+// How many slots are occupied by some group that a mark saw, or 1.
+fn occupied_slots(snapshot: &Snapshot) -> usize {
+    let mut occupied = Bits256::empty();
+    for entry in snapshot.owned() {
+        occupied = occupied.union(&entry.occupied);
+    }
+    for entry in snapshot.abandoned() {
+        occupied = occupied.union(&entry.occupied);
+    }
+    (occupied.count() as usize).max(1)
 }
 
 // How many slots a page has, of the class with the most that a mark saw in shards.

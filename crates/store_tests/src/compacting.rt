@@ -113,6 +113,64 @@ fn compacts_at_once(rt: HostRuntime) {
     assert_eq!(rt; is_compacted(rt.alloc(), 3, 100_000), Some(true));
 }
 
+// What is answered where too few pages can go, where enough can, and again; and whether the pages
+// that are left are so many.
+fn if_it_pays(alloc: Global) -> Option<[bool; 4]> {
+    let mut thinned = new_thinned(alloc, 3)?;
+    let before = thinned.core.totals().pages;
+    let mut compaction = Compaction::new();
+    let few = compaction.go_on_if_pays(&mut thinned.core, 100);
+    let enough = compaction.go_on_if_pays(&mut thinned.core, 75);
+    let again = compaction.go_on_if_pays(&mut thinned.core, 1);
+    let after = thinned.core.totals().pages;
+    Some([
+        matches!(few.standing, Standing::Done) && few.pages == 0,
+        matches!(enough.standing, Standing::Done) && after <= 24,
+        matches!(again.standing, Standing::Done) && again.pages == 0,
+        before == after + enough.pages && thinned.is_whole(),
+    ])
+}
+
+#[test]
+fn compacts_if_it_pays(rt: HostRuntime) {
+    assert_eq!(rt; if_it_pays(rt.alloc()), Some([true; 4]));
+}
+
+// Whether the object stays that was put into the slot of the page: of one half of 64 pages the
+// lowest five slots or the next five, and of the other half the lowest eleven, onto which none of
+// the first half fits.
+fn stays_at(page: u32, slot: u32) -> bool {
+    match page % 4 {
+        0 => slot < 5,
+        2 => slot >= 5 && slot < 10,
+        _ => slot < 11,
+    }
+}
+
+// How many pages are left of such 64.
+fn pages_left(alloc: Global) -> Option<usize> {
+    let mut core = Core::with_log(alloc, 1, 100, 1, 9).ok()?;
+    let mut keys = Vec::with_capacity(alloc, 1024).ok()?;
+    for number in 0..1024u32 {
+        keys.push_reserved(core.put(0, object(number)).ok()?);
+    }
+    for number in 0..1024u32 {
+        if !stays_at(number / PAGE, number % PAGE) {
+            core.free(&keys[number as usize]);
+        }
+    }
+    let done = Compaction::new().go_on(&mut core, 100_000);
+    match done.standing {
+        Standing::Done => Some(core.totals().pages),
+        _ => None,
+    }
+}
+
+#[test]
+fn divides_pages_that_fit_each_other_alone(rt: HostRuntime) {
+    assert_eq!(rt; pages_left(rt.alloc()), Some(48));
+}
+
 // What calls answer while a plan of somebody else is open, and once it is closed.
 fn beside_a_plan(alloc: Global) -> Option<[bool; 3]> {
     let mut thinned = new_thinned(alloc, 2)?;

@@ -2,11 +2,12 @@
 use Rattle.std.specs.Prelude.{◌≡◌, ◌+◌, ◌<◌, ◌≤◌, ℕ, max, Option, Some}
 use Rattle.arena_core.specs.Sound.{IsSound}
 use Rattle.arena_core.specs.State.{pages, shown}
-use Rattle.compaction.specs.Compacts.{ClosesOwn, IsWithin, Leaves, Takes, going}
+use Rattle.compaction.specs.Compacts.{ClosesOwn, CompactsIfPays, IsWithin, Leaves, Takes, going}
 use Rattle.compaction.specs.Progress.{fresh}
 use Rattle.compaction.specs.Told.{standing_of}
 use Rattle.compaction.specs.declared.advanced.Advanced.{Advanced}
 use Rattle.compaction.specs.declared.advanced.Advanced.TheVariants as advanced
+use Rattle.compaction.specs.declared.compacted.Compacted.{Compacted}
 use Rattle.compaction.specs.declared.compacted.Standing.{Standing}
 use Rattle.compaction.specs.declared.compacted.Standing.TheVariants.{GoesOn, Done, Refused}
 use Rattle.teurlaks_c.specs.declared.held.Held.{Held}
@@ -38,6 +39,24 @@ pub record Compacts (old : Option Held) (budget : ℕ) (says : CompactReply) (ne
   pub sound : IsSound after.core
   pub same : after.last ≡ before.last
   pub says_is : SaysStanding says standing
+
+-- the core is passed over, or its compaction takes as many steps as it takes; the rest is as above,
+-- where a core that is passed over is left as it was, and no page is told
+pub record MayCompact (old : Option Held) (says : CompactReply) (new : Option Held) : Type 0 where
+  pub before : Held
+  pub after : Held
+  pub compacted : Compacted
+  pub before_is : old ≡ Some before
+  pub after_is : new ≡ Some after
+  pub either : CompactsIfPays compacted (going before.compaction before.core)
+      (going after.compaction after.core)
+  pub plain : shown after.core ≡ shown before.core
+  pub pages_are : pages after.core + says.pages ≡ pages before.core
+  pub stands : Leaves compacted.standing after.core
+  pub sound : IsSound after.core
+  pub same : after.last ≡ before.last
+  pub says_is : SaysStanding says compacted.standing
+  pub says_pages : says.pages ≡ compacted.pages
 
 -- what C reads of what a step did
 abbrev pub SaysAdvanced : AdvanceReply → Advanced → Type 0

@@ -1,7 +1,7 @@
 // Compaction of a core, by calls that each take a part of it.
 ghost use Rattle.std.specs.Prelude.{◌≡◌, IsSome, None};
 ghost use Rattle.compaction.specs.declared.advanced.Advanced.TheVariants as advanced;
-ghost use Rattle.teurlaks_c.specs.Compacting.{Advances, Compacts, GivesUp, SaysAdvanced, SaysStanding};
+ghost use Rattle.teurlaks_c.specs.Compacting.{Advances, Compacts, GivesUp, MayCompact, SaysAdvanced, SaysStanding};
 ghost use Rattle.teurlaks_c.specs.Status.{done, no_core};
 
 use crate::handle::Handle;
@@ -36,6 +36,28 @@ pub extern "C" fn teurlaks_compact_within(handle: &mut Handle, budget: usize) ->
         };
     };
     compact_reply(held.compaction.go_on(&mut held.core, budget))
+}
+
+/// Compacts the core until that is done, if at least so many percent of its pages could go, and
+/// else does nothing. So it may be asked as often as one likes. How many could go is known from
+/// counts alone, without as many as the last compaction has left that could have gone by these. A
+/// compaction that is under way goes on.
+///
+/// Refused as [`teurlaks_compact_within`] is, and `more` is then 1.
+#[unsafe(no_mangle)]
+pub extern "C" fn teurlaks_compact_if_pays(handle: &mut Handle, percent: usize) -> CompactReply
+    ensures live { IsSome handle.old.held → MayCompact handle.old.held result handle.new.held }
+    ensures none { handle.old.held ≡ None → (result.status ≡ no_core) × (result.more ≡ 0)
+        × (result.pages ≡ 0) × (handle.new.held ≡ None) }
+{
+    let Some(held) = handle.held() else {
+        return CompactReply {
+            status: NO_CORE,
+            more: 0,
+            pages: 0,
+        };
+    };
+    compact_reply(held.compaction.go_on_if_pays(&mut held.core, percent))
 }
 
 // What C reads of it.

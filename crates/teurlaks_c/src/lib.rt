@@ -85,7 +85,8 @@ pub use calls::{
     teurlaks_put, teurlaks_put_words, teurlaks_set, teurlaks_set_words, teurlaks_totals,
 };
 pub use compacting::{
-    teurlaks_compact_within, teurlaks_compaction_give_up, teurlaks_compaction_step,
+    teurlaks_compact_if_pays, teurlaks_compact_within, teurlaks_compaction_give_up,
+    teurlaks_compaction_step,
 };
 pub use key_numbers::{teurlaks_key_bits, teurlaks_key_from_u64, teurlaks_key_to_u64};
 pub use leaving::teurlaks_seat_leave;

@@ -212,6 +212,35 @@ impl Core {
         self.counted(done(status).map(|()| more == 1))
     }
 
+    /// Takes steps of a [compaction](Core::compact), at least one, until so many are taken or the
+    /// caller has had enough, and takes them off what is left. A part that begins a compaction has
+    /// its forgetting and its trims, and nothing else. Pages are counted by folds then, without a
+    /// walk of all. The rounds are those of the budget.
+    pub(crate) fn compact_until(
+        &mut self,
+        left: &mut usize,
+        budget: usize,
+        is_enough: impl Fn() -> bool,
+    ) -> Result<Compacted, Refused> {
+        if self.plan != Plan::Compaction {
+            // A forgetting, the trims, and one that finds that there is no such shard.
+            let steps = self.limits.shards as usize + 2;
+            *left = left.saturating_sub(steps);
+            return self.compact_within(steps);
+        }
+        let mut more = true;
+        while more && *left > 0 {
+            let advanced = self.advance(budget.min(*left), budget)?;
+            self.gone += usize::from(advanced.folded.is_some());
+            *left -= advanced.cost;
+            more = advanced.more;
+            if is_enough() {
+                break;
+            }
+        }
+        self.counted(Ok(more))
+    }
+
     /// Begins a part of a compaction.
     pub(crate) fn begin_part(&mut self) -> Result<(), Refused> {
         self.no_plan_of_caller()?;

@@ -21,8 +21,9 @@ use std::time::Duration;
 /// Most calls have it for some 20 ns.
 const MOST_PAUSES: u32 = 6;
 
-/// How long a thread sleeps at most before it asks again.
-const SLEEP: Duration = Duration::from_millis(1);
+/// How long a thread sleeps at most before it asks again: about as long as a compaction in the
+/// background has a lock.
+const SLEEP: Duration = Duration::from_micros(100);
 
 /// How often a thread lets others run that wait for the lock, which it would have again before they
 /// are awake; then it goes on all the same.

@@ -7,10 +7,14 @@ use crate::core::Limits;
 use crate::refused::Refused;
 use crate::store::Store;
 use std::sync::{Mutex, MutexGuard, PoisonError};
+use std::time::{Duration, Instant};
 
-/// How many steps of a compaction are taken under one hold of the lock: the retirements are the
-/// longest, 0.1 to 0.4 ms.
-const PIECE: usize = 16;
+/// How long a hold of the lock takes steps of a compaction, of which the last one may take longer:
+/// of some 1,000 pages retirements take up to 0.1 ms, and marks up to 0.4.
+const HOLD: Duration = Duration::from_micros(50);
+
+/// How many groups a retirement takes at most, and the budget by which plans are bounded.
+const PIECE: usize = 64;
 
 /// The fewest pages for which a core gets a pool, which takes some memory of its own.
 const FEWEST_PAGES: usize = 4;
@@ -116,10 +120,11 @@ impl<T> Shard<T> {
             (pool.is_there, pool.is_under_way) = (true, true);
         }
         while pool.is_under_way && *left > 0 {
-            let piece = PIECE.min(*left);
-            *left -= piece;
             let done = self
-                .piece(|store| store.compact_within(piece))
+                .piece(|store| {
+                    let start = Instant::now();
+                    store.compact_until(left, PIECE, || start.elapsed() >= HOLD)
+                })
                 .transpose()?;
             pool.pages += done.map_or(0, |done| done.pages);
             pool.is_under_way = done.is_some_and(|done| done.more);
