@@ -243,7 +243,8 @@ impl Turn {
         }
     }
 
-    /// Leaves the steward with its open plan to whoever next leaves a session.
+    /// Leaves the steward with its open plan to whoever next leaves a session. All interleavings of
+    /// a small model are tried (`models/left_plans.py`).
     pub fn leave_plan(&self, steward: Share) {
         *self
             .shared
