@@ -5,9 +5,7 @@ use Rattle.std.specs.FinSet.{contains, insert, union, contains-insert, contains-
 use Rattle.std.specs.Ordering.{eq_by_cmp, nat_cmp}
 use Rattle.std.proofs.Math.Bool.{or-true}
 use Rattle.std.proofs.lemmas.Bool.{cases_Bool, cases_eq, ne_eqb, true≢false}
-use Rattle.bitmap.specs.Slots.{SlotSet, HasWord}
-use Rattle.bitmap.specs.WordSets.{has_word}
-use Rattle.bitmap.specs.declared.word_set.WordSet.{WordSet}
+use Rattle.bitmap.specs.Slots.{SlotSet}
 use Rattle.bitmap.specs.declared.bits.TheConstants.{SLOTS}
 use Rattle.span.specs.Log.{Value, live_slots, puts_of, worn_slots}
 use Rattle.span.specs.declared.change.Change.{Change}
@@ -15,7 +13,6 @@ use Rattle.span.specs.declared.change.Change.TheVariants.{Put}
 use Rattle.span.proofs.Changes.{puts_of-put_other}
 use Rattle.span.proofs.Slots.{contains-worn_slots, live_slots-put}
 use Rattle.groups.specs.Spans.{SpansState, taken, union_of, with_put}
-use Rattle.groups.specs.SpansKept.{IsFullOutside}
 
 -- a member of either set is one of both
 left_in : (a b : SlotSet) (q : ℕ) → contains a q ≡ true → contains (union a b) q ≡ true
@@ -69,10 +66,3 @@ module _ (spans : SpansState) (slot : ℕ) (value : Value) where
 
   pub taken-put_old : (q : ℕ) → contains (taken spans) q ≡ true → contains (taken (record spans { head = with_put spans.head slot value })) q ≡ true
   taken-put_old q member = taken-put q (contains-insert nat_cmp_total (taken spans) slot q ∙ ap (λ b. eq_by_cmp nat_cmp q slot || b) member ∙ or-true (eq_by_cmp nat_cmp q slot))
-
-  -- a word leaves the set if it is full once the slot is taken
-  pub IsFullOutside-put : (limit : ℕ) (words after : WordSet) (out : Bool) → limit ≤ 256 → IsFullOutside words limit (taken spans)
-      → (out ≡ true → HasWord (insert (taken spans) slot) (slot / 64))
-      → ((other : ℕ) → other < 4 → (out ≡ true → other ≡ slot / 64 → ⊥) → has_word after other ≡ has_word words other)
-      → IsFullOutside after limit (taken (record spans { head = with_put spans.head slot value }))
-  IsFullOutside-put limit words after out few full last same q below gone = search (rules, cases_eq, cases_Bool, taken-put, taken-put_old, true≢false)

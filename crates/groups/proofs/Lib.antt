@@ -34,4 +34,3 @@ pub mod Standing
 pub mod Tables
 pub mod StoredObjects
 pub mod Unions
-pub mod OpenWords

@@ -6,7 +6,6 @@ use Rattle.std.specs.FinSet as finset
 use Rattle.std.specs.FinSet.{contains}
 use Rattle.std.proofs.lemmas.Bool.{cases_eq, false_from_ne_true, ne_eqb}
 use Rattle.bitmap.specs.Slots.{SlotSet}
-use Rattle.bitmap.specs.declared.word_set.WordSet.{WordSet}
 use Rattle.bitmap.specs.Operations.{AreDisjoint-at}
 use Rattle.span.proofs.Keeping.{live-if_held}
 use Rattle.span.specs.Classes.{slots_in, width_of}
@@ -25,7 +24,7 @@ use Rattle.groups.specs.Group.{Group, spans_of}
 use Rattle.groups.specs.Pages.{set_group, words_of}
 use Rattle.groups.proofs.StoredObjects.{stored_other}
 use Rattle.groups.specs.Sound.{IsSoundGroup, IsStored}
-use Rattle.groups.specs.SpansKept.{IsFullOutside, IsKept}
+use Rattle.groups.specs.SpansKept.{IsKept}
 use Rattle.groups.specs.Spans.{AreApart, IsSpanOf, SpansState, all_spans, union_of, with_set_at, with_span_at}
 use Rattle.groups.proofs.Lists.{same_some, set-same}
 use Rattle.groups.proofs.Standing.{AreSpansOf-with_span, cases-with_span, spans_of-with_span}
@@ -79,29 +78,24 @@ module _ (span : SpanState) (slot generation : ℕ) (value : Value) (of_class : 
   has_as_many-not not = false_from_ne_true (has_as_many value (value_in span.log slot generation)) (λ may. not (settable-has_as_many may))
 
 -- what is kept beside the spans stays so, whether the set was done or not
-module _ (spans : SpansState) (occupied : SlotSet) (open_words : WordSet) (kept : IsKept spans occupied open_words) (span : SpanState) (slot generation : ℕ) (value : Value) where
+module _ (spans : SpansState) (occupied : SlotSet) (kept : IsKept spans occupied) (span : SpanState) (slot generation : ℕ) (value : Value) where
   kept_set : (place : ℕ) → slice_get (all_spans spans) place ≡ Some span → Holds span.log slot generation
-      → IsKept (with_span_at spans place (with_set_at span slot generation value)) occupied open_words
+      → IsKept (with_span_at spans place (with_set_at span slot generation value)) occupied
   kept_set zero here holds =
       let same = keep_held (all_spans spans) zero span slot generation value here holds kept.apart in
-      record {
-        occupied_is = kept.occupied_is ∙ sym same.0;
-        apart = same.1;
-        shut = rw (same.0, worn_slots-set span.gens span.log slot generation value)
-            (subst (λ (s : SpanState). IsFullOutside open_words (slots_in s.class) (finset.union (union_of (all_spans spans)) (worn_slots s.gens s.log))) (same_some here) kept.shut);
-      }
+      record { occupied_is = kept.occupied_is ∙ sym same.0; apart = same.1 }
   kept_set (suc place) here holds =
       let same = keep_held (all_spans spans) (suc place) span slot generation value here holds kept.apart in
-      record { occupied_is = kept.occupied_is ∙ sym same.0; apart = same.1; shut = rw same.0 kept.shut }
+      record { occupied_is = kept.occupied_is ∙ sym same.0; apart = same.1 }
 
   kept_same : (place : ℕ) → slice_get (all_spans spans) place ≡ Some span → with_span_at spans place span ≡ spans
   kept_same place here = search (rules, same_some, set-same)
 
   pub IsKept-set : (place : ℕ) → slice_get (all_spans spans) place ≡ Some span → (done : Bool) (after : SpanState)
       → IsTrue done ↔ IsSettable span slot generation value → OnTrue done (after ≡ with_set_at span slot generation value) → OnFalse done (after ≡ span)
-      → IsKept (with_span_at spans place after) occupied open_words
+      → IsKept (with_span_at spans place after) occupied
   IsKept-set place here true after found is unknown =
-      subst (λ (s : SpanState). IsKept (with_span_at spans place s) occupied open_words) (sym is) (kept_set place here (found.0 refl).0)
+      subst (λ (s : SpanState). IsKept (with_span_at spans place s) occupied) (sym is) (kept_set place here (found.0 refl).0)
   IsKept-set place here false after found is unknown = search (rules, kept_same)
 
 module _ {Closed : Type 0} (group : Group Closed) (sound : IsSoundGroup group)

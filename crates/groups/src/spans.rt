@@ -2,19 +2,17 @@
 ghost use Rattle.std.specs.Prelude.{[], ◌∷◌, ◌++◌, ◌≡◌, ◌<◌, ◌≤◌, ◌+◌, ◌*◌, ◌/◌, ℕ, IfOk, IfSome, OnOk, OnErr, MatchOption, Some, IsTrue, ◌↔◌, slice_get, length, map, false, vec_len, vec_capacity};
 ghost use Rattle.std.specs.Bool.{OnTrue, OnFalse};
 ghost use Rattle.std.specs.FinSet as set;
-ghost use Rattle.bitmap.specs.Slots.{AreDisjoint, HasWord};
-ghost use Rattle.bitmap.specs.WordSets.{has_word};
+ghost use Rattle.bitmap.specs.Slots.{AreDisjoint};
 ghost use Rattle.span.specs.Classes.{slots_in, width_of};
 ghost use Rattle.span.specs.Log.{live_slots, Holds};
 ghost use Rattle.span.specs.SpanLogs.{AreLegal, room_for_logs, span_of_log};
 ghost use Rattle.span.specs.State.{IsSettable};
 ghost use Rattle.groups.specs.Dead.{live_among};
-ghost use Rattle.groups.specs.SpansKept.{Finds, IsFullOutside};
-ghost use Rattle.groups.specs.Spans.{IsFull, IsNextKey, IsVacant, OfSpanAt, all_spans, live_count, set_spans, slots_for, summary_of, union_of, with_free_at, with_guest_at, with_head, with_more_guests, with_put, with_set_at, with_span_at, with_worn};
+ghost use Rattle.groups.specs.Spans.{HasAllIn, IsNextKey, IsVacantIn, OfSpanAt, all_spans, live_count, set_spans, slots_for, summary_of, taken, union_of, with_free_at, with_guest_at, with_head, with_more_guests, with_put, with_set_at, with_span_at};
 ghost use Rattle.bitmap.specs.declared.bits.TheConstants.{SLOTS};
 
 use crate::live::is_live;
-use bitmap::{Bits256, Vacancy, WordSet};
+use bitmap::{Bits256, Vacancy};
 use span::names::{Class, Entry, Key, SpanId};
 use span::spans::{Counted, Kept, Log, Span, SpanLog};
 use std::alloc::{AllocError, Global};
@@ -22,25 +20,12 @@ use std::marker::Model;
 use std::mem::swap;
 
 /// A head and its guests, which are on one page: no slot is live in two of them (the idea is that
-/// of Mesh). The slots that are live in one of them are kept beside them, and which of the four
-/// words of 64 slots may have one for a put.
+/// of Mesh). The slots that are live in one of them are kept beside them.
 #[derive(Drop)]
 pub struct Spans<L: Log = Kept> {
     head: Span<L>,
     guests: Vec<Span<L>>,
     occupied: Bits256,
-    // A word that is not in it has no usable slot. One that is in it may have none, and leaves it
-    // when a put finds that.
-    open_words: WordSet,
-}
-
-/// What a put of an object did.
-#[derive(Clone, Copy, PartialEq, Eq, Debug)]
-pub struct Placed {
-    /// The key that the head gave out.
-    pub key: Key,
-    /// Whether it is known that no usable slot is left.
-    pub is_full: bool,
 }
 
 impl<L: Log> Model for Spans<L> {
@@ -53,7 +38,7 @@ impl<L: Log> Model for Spans<L> {
     ghost use Rattle.groups.specs.SpansKept.{IsKept};
 
     ghost invariant = { λ s.
-        IsKept (record { head = s.head; guests = s.guests.items }) s.occupied s.open_words };
+        IsKept (record { head = s.head; guests = s.guests.items }) s.occupied };
 }
 
 impl<L: Log> Spans<L> {
@@ -66,7 +51,6 @@ impl<L: Log> Spans<L> {
             head,
             guests: Vec::new(alloc),
             occupied,
-            open_words: WordSet::all(),
         }
     }
 
@@ -167,51 +151,45 @@ impl<L: Log> Spans<L> {
         }
     }
 
-    /// Where a put of an object of the head's class goes: the lowest slot that is live in no span,
-    /// and not worn in the head. `None` where no slot below `slot_limit` is such a slot.
+    /// Where a put of an object of the head's class goes that goes to the word, which has the slots
+    /// from 64 `word` on: the lowest of them that is live in no span, and not worn in the head.
+    /// `None` where no slot of the word below `slot_limit` is such a slot.
     #[inline(always)]
-    pub fn find(&mut self, slot_limit: u16) -> Option<Vacancy>
-        ensures found { MatchOption result (IsFull slot_limit self.old)
-            (λ found. IsVacant slot_limit self.old found) }
-        ensures same { self.new ≡ self.old }
+    pub fn find_in(&self, slot_limit: u16, word: usize) -> Option<Vacancy>
+        requires { word < 4 }
+        ensures { MatchOption result
+            (HasAllIn slot_limit self.now.head.class (taken self.now) word)
+            (IsVacantIn slot_limit self.now word) }
     {
-        lowest_usable(&mut self.open_words, &self.occupied, &self.head, slot_limit)
+        let Some(found) = self.head.lowest_unused_in(&self.occupied, word) else {
+            return None;
+        };
+        if !is_offered(self.head.class(), slot_limit, found.slot) {
+            return None;
+        }
+        Some(found)
     }
 
-    /// Puts an object of the head's class, given by its words, at the slot that was found for it.
-    /// The head gives out the key.
+    /// Puts an object of the head's class, given by its words, at a slot that is live in no span,
+    /// and not worn in the head. The head gives out the key.
     ///
     /// # Errors
     ///
     /// `AllocError` where the head's log could not grow. The spans are then as they were.
     #[inline(always)]
-    pub fn put_at(
-        &mut self,
-        slot_limit: u16,
-        found: Vacancy,
-        words: &[u128],
-    ) -> Result<Placed, AllocError>
+    pub fn put_at(&mut self, slot: u8, words: &[u128]) -> Result<Key, AllocError>
+        requires on_page { slot < slots_in self.old.head.class }
         requires width { length words.now ≡ width_of self.old.head.class }
-        requires found { IsVacant slot_limit self.old found }
-        ensures slot { IfOk result (λ placed. placed.key.slot ≡ found.slot) }
-        ensures key { IfOk result (λ placed. IsNextKey self.old.head placed.key) }
-        ensures ok { IfOk result (λ placed.
-            self.new ≡ with_head self.old (with_put self.old.head found.slot words.now)) }
-        ensures full { IfOk result (λ placed. IsTrue placed.is_full → IsFull slot_limit self.new) }
+        requires vacant { set.contains (taken self.old) slot ≡ false }
+        ensures slot { IfOk result (λ key. key.slot ≡ slot) }
+        ensures key { IfOk result (IsNextKey self.old.head) }
+        ensures ok { IfOk result (λ key.
+            self.new ≡ with_head self.old (with_put self.old.head slot words.now)) }
         ensures err { OnErr result (self.new ≡ self.old) }
     {
-        let Vacancy { slot, is_last } = found;
         let key = self.head.put_at(slot, words)?;
         self.occupied.insert(slot);
-        let word = usize::from(slot / 64);
-        let is_full = shut(
-            &mut self.open_words,
-            word,
-            is_last,
-            self.head.class(),
-            slot_limit,
-        );
-        Ok(Placed { key, is_full })
+        Ok(key)
     }
 
     /// Sets the object of the slot in the span at the place to these words, where the slot is live
@@ -312,7 +290,6 @@ impl<L: Log> Spans<L> {
             return false;
         }
         self.occupied.remove(slot);
-        self.open_words.insert(usize::from(slot / 64));
         true
     }
 
@@ -329,7 +306,6 @@ impl<L: Log> Spans<L> {
             return false;
         }
         self.occupied.remove(slot);
-        self.open_words.insert(usize::from(slot) / 64);
         true
     }
 }
@@ -362,72 +338,12 @@ impl Spans<Counted> {
     }
 }
 
-// The lowest slot that is neither occupied nor worn in the head, if a put of its class may take it;
-// the words outside of `open_words` have none of the class. A word in which none is found leaves
-// it, so that the next search does not look there.
-#[inline(always)]
-fn lowest_usable<L: Log>(
-    open_words: &mut WordSet,
-    occupied: &Bits256,
-    head: &Span<L>,
-    slot_limit: u16,
-) -> Option<Vacancy>
-    requires { IsFullOutside open_words.old (slots_in head.now.class)
-        (with_worn occupied.now head.now) }
-    ensures lowest { Finds slot_limit head.now occupied.now result }
-    ensures last { IfSome result (λ found. IsTrue found.is_last
-        → HasWord (set.insert (with_worn occupied.now head.now) found.slot) (found.slot / 64)) }
-    ensures shut { IsFullOutside open_words.new (slots_in head.now.class)
-        (with_worn occupied.now head.now) }
-{
-    let class = head.class();
-    while let Some(word) = open_words.first() {
-        if let Some(found) = head.lowest_unused_in(occupied, word) {
-            if is_offered(class, slot_limit, found.slot) {
-                return Some(found);
-            }
-            return None;
-        }
-        open_words.remove(word);
-    }
-    None
-}
-
 // Whether a put of the class may take the slot.
 #[inline(always)]
 fn is_offered(class: Class, slot_limit: u16, slot: u8) -> bool
     ensures { IsTrue result ↔ (slot < slots_for slot_limit class) }
 {
     u16::from(slot) < class.slots() && u16::from(slot) < slot_limit
-}
-
-// Takes the word out if `out` says so, and says whether none is left then that has a slot which a
-// put of the class may take.
-#[inline(always)]
-fn shut(open_words: &mut WordSet, word: usize, out: bool, class: Class, slot_limit: u16) -> bool
-    requires { word < 4 }
-    ensures none { IsTrue result → (other : ℕ) → other < 4
-        → 64 * other < slots_for slot_limit class → has_word open_words.new other ≡ false }
-    ensures others { (other : ℕ) → other < 4 → (IsTrue out → other ≡ word → ⊥)
-        → has_word open_words.new other ≡ has_word open_words.old other }
-{
-    if !out {
-        return false;
-    }
-    open_words.remove(word);
-    !has_offered(*open_words, class, slot_limit)
-}
-
-// Whether one of the words has a slot that a put of the class may take.
-#[inline(always)]
-fn has_offered(words: WordSet, class: Class, slot_limit: u16) -> bool
-    ensures { result ≡ false → (word : ℕ) → word < 4
-        → 64 * word < slots_for slot_limit class → has_word words word ≡ false }
-{
-    let Some(first) = words.first() else {
-        return false;
-    };
-    is_offered(class, slot_limit, 64 * first as u8)
 }
 
 // Drops the guests in which no slot is live.

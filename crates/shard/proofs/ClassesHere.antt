@@ -1,5 +1,5 @@
 -- The sets of the classes of groups have room, also where groups come, change and go.
-use Rattle.std.proofs.Common.{◌≡◌, ◌∙◌, ℕ, ◌<◌, ◌≤◌, ◌++◌, ◌∷◌, [], List, Some, true, ap, arith, inl, inr, insert, length, map, refl, set, slice_get, sym, rules}
+use Rattle.std.proofs.Common.{◌≡◌, ◌∙◌, ℕ, ◌<◌, ◌≤◌, ◌*◌, ◌/◌, ◌++◌, ◌∷◌, [], List, Some, true, ap, arith, inl, inr, insert, length, map, refl, set, slice_get, sym, rules}
 use Rattle.std.specs.FinSet.{contains}
 use Rattle.std.specs.List.{filter}
 use Rattle.std.specs.Prelude.{remove}
@@ -57,18 +57,18 @@ module _ (groups : List GroupState) (rooms : List NumbersState) (count : ℕ) (h
       (was.0, other, was.1, refl))
 
   -- one has come, whose class has room
-  pub HaveRoom-insert : (index : ℕ) (group : GroupState) → index ≤ length groups → count ≤ room_of rooms group.head.class → HaveRoom (insert groups index group) rooms count
+  pub HaveRoom-insert : (index : ℕ) (group : GroupState) → index ≤ length groups → 4 * count ≤ room_of rooms group.head.class → HaveRoom (insert groups index group) rooms count
   HaveRoom-insert index group within enough q other there = elim (cases-insert groups index group within q other there) [
     | inl low ↦ has q other low.1
     | inr (inl here) ↦ omega (arith, enough, ap (λ (g : GroupState). room_of rooms g.head.class) here.1)
     | inr (inr high) ↦ has high.0 other high.3
   ]
 
-  -- a class of which an index is noted is that of a group
-  pub HaveRoom-noted : {slot_limit : ℕ} (class : Class) → HasRooms slot_limit class groups (rooms_of rooms class) → (n : ℕ) → contains (rooms_of rooms class) n ≡ true → count ≤ room_of rooms class
+  -- a class of which a number is noted is that of a group
+  pub HaveRoom-noted : {slot_limit : ℕ} (class : Class) → HasRooms slot_limit class groups (rooms_of rooms class) → (n : ℕ) → contains (rooms_of rooms class) n ≡ true → 4 * count ≤ room_of rooms class
   HaveRoom-noted {slot_limit} class noted n member =
-      let it = some_here groups n (noted.within n member) in
-      omega (arith, has n it.0 it.1, ap (room_of rooms) (noted.of_class n it.0 it.1 member))
+      let it = some_here groups (n / 4) (noted.within n member) in
+      omega (arith, has (n / 4) it.0 it.1, ap (room_of rooms) (noted.of_class n it.0 it.1 member))
 
 pub HaveRoom-none : (groups : List GroupState) → groups ≡ [] → (rooms : List NumbersState) (count : ℕ) → HaveRoom groups rooms count
 HaveRoom-none groups none rooms count index group there = absurd (let e = ap (λ gs. slice_get gs index) (sym none) ∙ there in cc)

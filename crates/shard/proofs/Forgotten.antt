@@ -1,5 +1,5 @@
 -- What stays where groups lose the guests in which no slot is live.
-use Rattle.std.proofs.Common.{zero, suc, ◌≡◌, ℕ, ◌≤◌, Bool, true, cond, List, [], ◌∷◌, Option, Some, slice_get, ◌∙◌, ap, sym, subst, arith, inl, inr, refl, rules}
+use Rattle.std.proofs.Common.{◌%◌, ◌/◌, zero, suc, ◌≡◌, ℕ, ◌≤◌, Bool, true, cond, List, [], ◌∷◌, Option, Some, slice_get, ◌∙◌, ap, sym, subst, arith, inl, inr, refl, rules}
 use Rattle.std.specs.Prelude.{map as map_list, remove}
 use Rattle.std.proofs.lemmas.Bool.{cases_eq}
 use Rattle.std.proofs.lemmas.List.{length-map}
@@ -18,7 +18,7 @@ use Rattle.span.proofs.Ids.{test_from_same_id}
 use Rattle.shard.specs.HeadWindow.{HeadWindow}
 use Rattle.shard.specs.Heads.{KnowsHeads}
 use Rattle.shard.proofs.KnownHeads.{KnowsHeads-same}
-use Rattle.shard.specs.Group.{GroupState, HasNoRoom}
+use Rattle.shard.specs.Group.{GroupState, HasNoRoomIn}
 use Rattle.shard.specs.Moves.{HasGuestRoom}
 use Rattle.shard.specs.Rooms.{HasRooms}
 use Rattle.shard.specs.Sound.{IsSound}
@@ -26,18 +26,18 @@ use Rattle.shard.specs.State.{ShardState}
 use Rattle.shard.proofs.AlikeGroups.{AreSoundGroups-map}
 use Rattle.shard.proofs.ChangedBelow.{changed_below}
 
--- a group that takes no put takes none afterwards
-HasNoRoom-without_dead : (slot_limit : ℕ) (class : Class) (group : GroupState) → HasNoRoom slot_limit class group → HasNoRoom slot_limit class (without_dead group)
-HasNoRoom-without_dead slot_limit class group n = search (rules, occupied-without_dead)
+-- a word that takes no put takes none afterwards
+HasNoRoomIn-without_dead : (slot_limit : ℕ) (class : Class) (group : GroupState) (word : ℕ) → HasNoRoomIn slot_limit class group word → HasNoRoomIn slot_limit class (without_dead group) word
+HasNoRoomIn-without_dead slot_limit class group word n = search (rules, occupied-without_dead)
 
 pub HasRooms-without_dead : {slot_limit : ℕ} (class : Class) (groups : List GroupState) (rooms : SlotSet) → HasRooms slot_limit class groups rooms → HasRooms slot_limit class (map_list without_dead groups) rooms
 HasRooms-without_dead {slot_limit} class groups rooms has = record {
   within = λ q member. rw (length-map groups (without_dead {Closed = _})) (has.within q member);
   others = λ q other there out.
-      let before = before-map without_dead groups q other there in
-      subst (HasNoRoom slot_limit class) before.2 (HasNoRoom-without_dead slot_limit class before.0 (has.others q before.0 before.1 out));
+      let before = before-map without_dead groups (q / 4) other there in
+      subst (λ (g : GroupState). HasNoRoomIn slot_limit class g (q % 4)) before.2 (HasNoRoomIn-without_dead slot_limit class before.0 (q % 4) (has.others q before.0 before.1 out));
   of_class = λ q other there member.
-      let before = before-map without_dead groups q other there in
+      let before = before-map without_dead groups (q / 4) other there in
       ap (λ (g : GroupState). g.head.class) (sym before.2) ∙ has.of_class q before.0 before.1 member;
 }
 

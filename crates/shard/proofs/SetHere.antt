@@ -11,7 +11,7 @@ use Rattle.groups.specs.Spans.{AreApart, union_of}
 use Rattle.groups.proofs.Lists.{same_some}
 use Rattle.groups.proofs.Standing.{spans_of-with_span}
 use Rattle.groups.proofs.Unions.{keep_held}
-use Rattle.shard.specs.Group.{GroupState, HasNoRoom, unusable}
+use Rattle.shard.specs.Group.{GroupState, HasNoRoomIn, unusable}
 
 module _ (group : GroupState) (span : SpanState) (slot generation : ℕ) (value : Value) where
   abbrev after : ℕ → GroupState
@@ -35,6 +35,6 @@ module _ (group : GroupState) (span : SpanState) (slot generation : ℕ) (value 
         let live : occupied (after place) ≡ occupied group = ap union_of (spans_of-with_span group place _) ∙ (keep_held (spans_of group) place span slot generation value here settable.0 apart).0 in
         λ i. union (live i) (worn-set_group place here i)
 
-    -- a group with no room has none after the set
-    pub HasNoRoom-set : (slot_limit : ℕ) (class : Class) → HasNoRoom slot_limit class group → HasNoRoom slot_limit class (after place)
-    HasNoRoom-set slot_limit class n = search (rules, closed-set_group, class-set_group, unusable-set_group)
+    -- a word with no room has none after the set
+    pub HasNoRoomIn-set : (slot_limit : ℕ) (class : Class) (word : ℕ) → HasNoRoomIn slot_limit class group word → HasNoRoomIn slot_limit class (after place) word
+    HasNoRoomIn-set slot_limit class word n = search (rules, closed-set_group, class-set_group, unusable-set_group)

@@ -1,5 +1,5 @@
 -- What stays where groups with no live slot give their pages back.
-use Rattle.std.proofs.Common.{◌≡◌, ℕ, true, ◌&&◌, List, None, not, nat_eq, is_some, eqb-true, ◌∙◌, ap, sym, subst, rules}
+use Rattle.std.proofs.Common.{◌%◌, ◌/◌, ◌≡◌, ℕ, true, ◌&&◌, List, None, not, nat_eq, is_some, eqb-true, ◌∙◌, ap, sym, subst, rules}
 use Rattle.std.specs.Prelude.{map as map_list}
 use Rattle.std.specs.FinSet.{empty, empty_of_len}
 use Rattle.std.proofs.lemmas.Bool.{and_parts}
@@ -12,7 +12,7 @@ use Rattle.groups.specs.Spans.{live_count, union_of}
 use Rattle.groups.proofs.FreedGroups.{IsSoundGroup-unpaged}
 use Rattle.groups.proofs.Lists.{before-map}
 use Rattle.groups.proofs.LiveCounts.{len-union_of}
-use Rattle.shard.specs.Group.{GroupState, HasNoRoom}
+use Rattle.shard.specs.Group.{GroupState, HasNoRoomIn}
 use Rattle.shard.specs.Rooms.{HasRooms}
 use Rattle.shard.specs.Trims.{is_idle, trimmed}
 use Rattle.shard.proofs.AlikeGroups.{AreSoundGroups-map, bare, map_bare-map}
@@ -43,17 +43,17 @@ map_bare-trimmed groups = map_bare-map trimmed bare-trimmed groups
 pub AreSoundGroups-trimmed : (groups : List GroupState) → AreSoundGroups groups → AreSoundGroups (map_list trimmed groups)
 AreSoundGroups-trimmed groups sound = AreSoundGroups-map trimmed IsSoundGroup-trimmed groups sound
 
--- a group that takes no put takes none afterwards
-HasNoRoom-trimmed : (slot_limit : ℕ) (class : Class) (group : GroupState) → HasNoRoom slot_limit class group → HasNoRoom slot_limit class (trimmed group)
-HasNoRoom-trimmed slot_limit class group none = search rules
+-- a word that takes no put takes none afterwards
+HasNoRoomIn-trimmed : (slot_limit : ℕ) (class : Class) (group : GroupState) (word : ℕ) → HasNoRoomIn slot_limit class group word → HasNoRoomIn slot_limit class (trimmed group) word
+HasNoRoomIn-trimmed slot_limit class group word none = search rules
 
 pub HasRooms-trimmed : {slot_limit : ℕ} (class : Class) (groups : List GroupState) (rooms : SlotSet) → HasRooms slot_limit class groups rooms → HasRooms slot_limit class (map_list trimmed groups) rooms
 HasRooms-trimmed {slot_limit} class groups rooms has = record {
   within = λ q member. rw (length-map groups trimmed) (has.within q member);
   others = λ q other there out.
-      let before = before-map trimmed groups q other there in
-      subst (HasNoRoom slot_limit class) before.2 (HasNoRoom-trimmed slot_limit class before.0 (has.others q before.0 before.1 out));
+      let before = before-map trimmed groups (q / 4) other there in
+      subst (λ (g : GroupState). HasNoRoomIn slot_limit class g (q % 4)) before.2 (HasNoRoomIn-trimmed slot_limit class before.0 (q % 4) (has.others q before.0 before.1 out));
   of_class = λ q other there member.
-      let before = before-map trimmed groups q other there in
+      let before = before-map trimmed groups (q / 4) other there in
       ap (λ (g : GroupState). g.head.class) (sym before.2) ∙ class-trimmed before.0 ∙ has.of_class q before.0 before.1 member;
 }

@@ -13,7 +13,7 @@ use Rattle.page.specs.Words.{IsInObjects, IsPageOf, PageState, Takes, Words, bla
 use Rattle.page.proofs.Zeros.{page_there, words_of-page_of}
 use Rattle.groups.specs.Pages.{set_group, with_object, words_of}
 use Rattle.groups.specs.Sound.{IsSoundGroup}
-use Rattle.groups.specs.Spans.{HasAllOf, IsVacant, SpansState, all_spans, taken, with_free_at, with_set_at, with_span_at}
+use Rattle.groups.specs.Spans.{HasAllIn, IsVacantIn, SpansState, all_spans, taken, with_free_at, with_set_at, with_span_at}
 use Rattle.groups.specs.Whole.{WholeState, whole_with}
 use Rattle.groups.proofs.Lists.{same_some, there_at}
 use Rattle.groups.proofs.SetGroups.{fits_page}
@@ -94,9 +94,9 @@ IsPageOf-freed spans new is_paged page place slot generation within kept true fr
 IsPageOf-freed spans new is_paged page place slot generation within kept false freed unknown =
     subst (λ (class : Class). IsPageOf class is_paged page) (ap (λ (s : SpansState). s.head.class) (sym unknown)) kept
 
--- spans with a slot for a put are not full
-pub not_full : (slot_limit : ℕ) (spans : SpansState) (found : Vacancy) → IsVacant slot_limit spans found → HasAllOf slot_limit spans.head.class (taken spans) → ⊥
-not_full slot_limit spans found vacant full = false≢true (sym vacant.0.1.outside ∙ full found.slot vacant.0.0)
+-- a word with a slot for a put is not full
+pub not_full : (slot_limit : ℕ) (spans : SpansState) (word : ℕ) (found : Vacancy) → IsVacantIn slot_limit spans word found → HasAllIn slot_limit spans.head.class (taken spans) word → ⊥
+not_full slot_limit spans word found vacant full = false≢true (sym vacant.1.0.outside ∙ full found.slot vacant.1.0.in_word vacant.0)
 
 -- what a set did for which the page may have grown
 module _ (spans new : SpansState) (is_paged : Bool) (page now : PageState) (place : ℕ) (span : SpanState) (slot generation : ℕ) (value : Value)

@@ -4,6 +4,7 @@ ghost use Rattle.bitmap.specs.Numbers.{NumbersState};
 ghost use Rattle.bitmap.specs.declared.numbers.TheConstants.{MOST_NUMBERS};
 ghost use Rattle.shard.specs.Rooms.{HasRoomAt, IsNoLess, IsShiftedDown, IsShiftedUp, set_at};
 
+use crate::class_rooms::WORDS;
 use bitmap::NumberSet;
 use std::alloc::{AllocError, Global};
 
@@ -50,47 +51,58 @@ pub(crate) fn reserve_all(sets: &mut Vec<NumberSet>, count: usize) -> Result<(),
     Ok(())
 }
 
-/// Moves the numbers from this one on up by one in each set.
-pub(crate) fn shift_all_up(sets: &mut Vec<NumberSet>, number: usize)
-    requires { (n : ℕ) → HasRoomAt number (set_at sets.old.items n) }
+/// Moves the numbers of the groups from this one on up by those of one in each set.
+pub(crate) fn shift_all_up(sets: &mut Vec<NumberSet>, index: usize)
+    requires { (n : ℕ) → HasRoomAt index (set_at sets.old.items n) }
     ensures shifted { (n : ℕ) →
-        IsShiftedUp number (set_at sets.old.items n) (set_at sets.new.items n) }
+        IsShiftedUp index (set_at sets.old.items n) (set_at sets.new.items n) }
     ensures len { vec_len sets.new ≡ vec_len sets.old }
 {
     for at in 0..sets.len() {
-        shift_up(&mut sets[at], number);
+        shift_up(&mut sets[at], index);
     }
 }
 
-/// Moves the numbers from this one on up by one. Of an empty set it takes a look alone.
-pub(crate) fn shift_up(set: &mut NumberSet, number: usize)
-    requires { HasRoomAt number set.old }
-    ensures { IsShiftedUp number set.old set.new }
+/// Moves the numbers of the groups from this one on up by those of one. Of an empty set it takes a
+/// look alone.
+pub(crate) fn shift_up(set: &mut NumberSet, index: usize)
+    requires { HasRoomAt index set.old }
+    ensures { IsShiftedUp index set.old set.new }
 {
     if set.lowest().is_none() {
         return;
     }
-    set.shift_up(number);
+    let first = WORDS * index;
+    set.shift_up(first);
+    set.shift_up(first);
+    set.shift_up(first);
+    set.shift_up(first);
 }
 
-/// Takes the number out of each set, and moves those above it down by one.
-pub(crate) fn shift_all_down(sets: &mut Vec<NumberSet>, number: usize)
+/// Takes the numbers of the group out of each set, and moves those above them down.
+pub(crate) fn shift_all_down(sets: &mut Vec<NumberSet>, index: usize)
+    requires { index < MOST_NUMBERS }
     ensures shifted { (n : ℕ) →
-        IsShiftedDown number (set_at sets.old.items n) (set_at sets.new.items n) }
+        IsShiftedDown index (set_at sets.old.items n) (set_at sets.new.items n) }
     ensures len { vec_len sets.new ≡ vec_len sets.old }
 {
     for at in 0..sets.len() {
-        shift_down(&mut sets[at], number);
+        shift_down(&mut sets[at], index);
     }
 }
 
-/// Takes the number out, and moves those above it down by one. Of an empty set it takes a look
-/// alone.
-pub(crate) fn shift_down(set: &mut NumberSet, number: usize)
-    ensures { IsShiftedDown number set.old set.new }
+/// Takes the numbers of the group out, and moves those above them down. Of an empty set it takes a
+/// look alone.
+pub(crate) fn shift_down(set: &mut NumberSet, index: usize)
+    requires { index < MOST_NUMBERS }
+    ensures { IsShiftedDown index set.old set.new }
 {
     if set.lowest().is_none() {
         return;
     }
-    set.shift_down(number);
+    let first = WORDS * index;
+    set.shift_down(first);
+    set.shift_down(first);
+    set.shift_down(first);
+    set.shift_down(first);
 }

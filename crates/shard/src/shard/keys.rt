@@ -10,6 +10,7 @@ ghost use Rattle.shard.specs.Shown.{shown};
 ghost use Rattle.shard.specs.Sound.{IsSound};
 
 use super::{Found, Freed, Shard, head_index};
+use crate::class_rooms::WORDS;
 use crate::head_indexes::{HEADS, is_noted};
 use crate::least_live::clear_byte;
 use span::names::{Key, SpanId};
@@ -194,7 +195,8 @@ impl<L: Log> Shard<L> {
         let class = group.class();
         // Before the set, whose slow branch is a call: the index is not needed after it.
         clear_byte(&mut self.least, index);
-        self.rooms.insert(class, index);
+        self.rooms
+            .insert(class, WORDS * index + usize::from(key.slot / 64));
         Freed::Yes(at)
     }
 

@@ -65,12 +65,11 @@ fn sweep_rooms<L: Log>(groups: &GroupRow<L>, rooms: &mut ClassRooms)
     for index in 0..groups.len() {
         let place = &groups[index];
         let class = place.class();
-        let had = rooms.contains(class, index);
-        rooms.remove(class, index);
         if place.has_left() {
+            rooms.remove_all(class, index);
             continue;
         }
-        rooms.note(class, next, had);
+        rooms.move_to(class, index, next);
         next += 1;
     }
 }

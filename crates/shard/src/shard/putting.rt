@@ -9,10 +9,11 @@ ghost use Rattle.shard.specs.Sound.{IsSound};
 
 use super::Shard;
 use crate::error::PutError;
-use crate::group::{Group, make_room};
+use crate::class_rooms::WORDS;
+use crate::group::{Group, Placed, make_room};
 use crate::group_row::GroupRow;
 use crate::least_live::{add_byte, note_before, reserve_bytes};
-use groups::{Placed, Spans};
+use groups::Spans;
 use page::{MaybePage, Page};
 use span::names::{Class, Key, Object, SpanId};
 use span::spans::{Log, Span};
@@ -63,18 +64,23 @@ impl<L: Log> Shard<L> {
         if self.ended {
             return Err(PutError::Ended);
         }
-        let Some(index) = self.rooms.lowest(class) else {
+        let Some(number) = self.rooms.lowest(class) else {
             return self.put_otherwise(class, words);
         };
-        let group = &mut self.groups[index];
+        let group = &mut self.groups[number / WORDS];
         let at = group.span_at(0).changes();
-        let Some(Placed { key, is_full }) = group.put(self.alloc, class, self.slot_limit, words)?
-        else {
+        let Some(Placed { key, is_full }) = group.put(
+            self.alloc,
+            class,
+            number % WORDS,
+            self.slot_limit,
+            words,
+        )? else {
             return self.put_otherwise(class, words);
         };
-        // A group that is full now leaves the set at once, by what is known of it in registers and
+        // A word that is full now leaves the set at once, by what is known of it in registers and
         // without a branch: every other put would look there first.
-        self.rooms.remove_if(class, index, is_full);
+        self.rooms.remove_if(class, number, is_full);
         Ok((key, at))
     }
 
@@ -115,19 +121,20 @@ impl<L: Log> Shard<L> {
         if self.ended {
             return Err(PutError::Ended);
         }
-        while let Some(index) = self.rooms.lowest(class) {
-            let group = &mut self.groups[index];
+        while let Some(number) = self.rooms.lowest(class) {
+            let group = &mut self.groups[number / WORDS];
             let at = group.span_at(0).changes();
             if let Some(Placed { key, is_full }) = group.put(
                 self.alloc,
                 class,
+                number % WORDS,
                 self.slot_limit,
                 words,
             )? {
-                self.rooms.remove_if(class, index, is_full);
+                self.rooms.remove_if(class, number, is_full);
                 return Ok((key, at));
             }
-            self.rooms.remove(class, index);
+            self.rooms.remove(class, number);
         }
         if self.groups.len() >= self.page_limit || self.opened >= self.span_limit {
             return Err(PutError::PagesSpent);

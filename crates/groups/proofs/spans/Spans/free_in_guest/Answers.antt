@@ -4,17 +4,14 @@ use Rattle.std.proofs.lemmas.Option.{slice_get_read}
 use Rattle.span.specs.State.{SpanState}
 use Rattle.groups.specs.Spans.{SpansState, union_of, AreApart, with_free_at}
 use Rattle.groups.proofs.Lists.{same_some}
-use Rattle.span.specs.Classes.{slots_in}
 use Rattle.span.specs.Log.{worn_slots}
-use Rattle.groups.specs.SpansKept.{IsFullOutside}
-use Rattle.groups.proofs.OpenWords.{IsFullOutside-freed}
 use Rattle.groups.proofs.Unions.{lose_held}
 use Rattle.groups.proofs.spans.Spans.free_in_guest.Goals as goal
 
-here : (g : _) (c : goal.After-insert g) → slice_get c.self.inside.guests.items c.args.at ≡ Some c.index_mut.result.now
+here : (g : _) (c : goal.After-remove g) → slice_get c.self.inside.guests.items c.args.at ≡ Some c.index_mut.result.now
 here g c = search (rules, slice_get_read)
 
-same_span : (g : _) (c : goal.After-insert g) (span : SpanState) → slice_get c.args.self.now.guests c.args.at ≡ Some span → c.index_mut.result.now ≡ span
+same_span : (g : _) (c : goal.After-remove g) (span : SpanState) → slice_get c.args.self.now.guests c.args.at ≡ Some span → c.index_mut.result.now ≡ span
 same_span g c span at = same_some (sym (here g c) ∙ ap (λ (g : SpansState). slice_get g.guests c.args.at) c.self.view_is ∙ at)
 
 pub invariant_of-self-2 : goal.invariant_of-self-2
@@ -27,11 +24,6 @@ invariant_of-self-2 g c =
       occupied_is = c.remove.ensures ∙ ap (λ s. finset.remove s c.args.slot) c.self.invariant.occupied_is ∙ sym lost.0
           ∙ ap (λ (s : SpanState). union_of (inside.head ∷ set inside.guests.items c.args.at s)) (sym is);
       apart = subst (λ (s : SpanState). AreApart (inside.head ∷ set inside.guests.items c.args.at s)) (sym is) lost.1;
-      shut = subst (λ (s : SpanState). IsFullOutside c.insert.new.self (slots_in inside.head.class) (finset.union (union_of (inside.head ∷ set inside.guests.items c.args.at s))
-          (worn_slots inside.head.gens inside.head.log))) (sym is)
-          (rw lost.0
-          (IsFullOutside-freed (slots_in inside.head.class) (union_of (inside.head ∷ inside.guests.items)) (worn_slots inside.head.gens inside.head.log) inside.open_words
-          c.insert.new.self c.args.slot c.self.invariant.shut (rw (← c.from.ensures) c.insert.ensures.this) (rw (← c.from.ensures) c.insert.ensures.others)));
     }
 
 pub returns-clause-found : goal.returns-clause-found

@@ -2,11 +2,8 @@ use Rattle.std.proofs.Common.{◌≡◌, ◌∙◌, ◌∷◌, ap, sym, refl, su
 use Rattle.std.specs.FinSet as finset
 use Rattle.span.specs.State.{SpanState}
 use Rattle.groups.specs.Spans.{union_of, AreApart, with_free_at}
-use Rattle.span.specs.Classes.{slots_in}
 use Rattle.span.specs.Log.{worn_slots}
 use Rattle.span.proofs.Slots.{worn_slots-free}
-use Rattle.groups.specs.SpansKept.{IsFullOutside}
-use Rattle.groups.proofs.OpenWords.{IsFullOutside-freed}
 use Rattle.groups.proofs.Unions.{lose_held}
 use Rattle.groups.proofs.spans.Spans.free_in_head.Goals as goal
 
@@ -18,8 +15,4 @@ invariant_of-self-2 g c =
     record {
       occupied_is = c.remove.ensures ∙ ap (λ s. finset.remove s c.args.slot) c.self.invariant.occupied_is ∙ sym lost.0 ∙ ap (λ (s : SpanState). union_of (s ∷ inside.guests.items)) (sym is);
       apart = subst (λ (s : SpanState). AreApart (s ∷ inside.guests.items)) (sym is) lost.1;
-      shut = subst (λ (s : SpanState). IsFullOutside c.insert.new.self (slots_in s.class) (finset.union (union_of (s ∷ inside.guests.items)) (worn_slots s.gens s.log))) (sym is)
-          (rw (lost.0, worn_slots-free inside.head.gens inside.head.log c.args.slot c.args.generation)
-          (IsFullOutside-freed (slots_in inside.head.class) (union_of (inside.head ∷ inside.guests.items)) (worn_slots inside.head.gens inside.head.log) inside.open_words
-          c.insert.new.self c.args.slot c.self.invariant.shut (rw (← c.from.ensures) c.insert.ensures.this) (rw (← c.from.ensures) c.insert.ensures.others)));
     }

@@ -8,5 +8,4 @@ pub invariant_of-result : goal.invariant_of-result
 invariant_of-result g c = record {
   occupied_is = rw c.new.ensures.items (c.live-occupied.ensures ∙ sym (union-empty _));
   apart = rw c.new.ensures.items (AreDisjoint-empty _, tt);
-  shut = λ q below out. absurd (true≢false (sym (c.all.ensures (q / 64) (omega (arith, below, slots_in-most c.args.head.class))) ∙ out));
 }

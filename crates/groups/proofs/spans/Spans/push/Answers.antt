@@ -3,8 +3,6 @@ use Rattle.std.specs.FinSet.{union}
 use Rattle.bitmap.specs.Slots.{AreDisjoint}
 use Rattle.span.specs.Log.{live_slots, worn_slots}
 use Rattle.groups.specs.Spans.{SpansState, all_spans, union_of}
-use Rattle.groups.proofs.OpenWords.{IsFullOutside-joined}
-use Rattle.span.specs.Classes.{slots_in}
 use Rattle.groups.proofs.Guests.{AreApart-push, union_of-push}
 use Rattle.groups.proofs.spans.Spans.push.Goals as goal
 
@@ -18,7 +16,4 @@ invariant_of-self-2 g c =
           rw (c.push_reserved.ensures.items, c.in_ok-reserve.ensures.items)
           (c.union-self-inside.ensures ∙ rw (c.live.ensures) (ap (λ s. union s (live_slots c.args.guest.log)) c.self.invariant.occupied_is) ∙ sym (union_of-push spans c.args.guest));
       apart = rw (c.push_reserved.ensures.items, c.in_ok-reserve.ensures.items) (AreApart-push spans c.args.guest c.self.invariant.apart apart);
-      shut = rw (c.push_reserved.ensures.items, c.in_ok-reserve.ensures.items, union_of-push spans c.args.guest)
-          (IsFullOutside-joined inside.open_words (slots_in inside.head.class) (union_of spans) (live_slots c.args.guest.log) (worn_slots inside.head.gens inside.head.log)
-          c.self.invariant.shut);
     }

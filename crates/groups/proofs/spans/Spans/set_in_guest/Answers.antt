@@ -16,7 +16,7 @@ invariant_of-self-2 g c =
     let done = c.in_ok-done.ensures in
     let here = slice_get_read inside.guests.items _ c.args.at c.index_mut.result.now refl
     (subst (λ (g : SpansState). c.args.at < length g.guests) (sym c.self.view_is) c.requires) c.index_mut.ensures.value in
-    IsKept-set (record { head = inside.head; guests = inside.guests.items }) inside.occupied inside.open_words c.self.invariant c.index_mut.result.now
+    IsKept-set (record { head = inside.head; guests = inside.guests.items }) inside.occupied c.self.invariant c.index_mut.result.now
     c.args.slot c.args.generation c.args.words.now (suc c.args.at) here c.in_ok-done.done c.set_held.new.self done.found done.set
     done.unknown
 

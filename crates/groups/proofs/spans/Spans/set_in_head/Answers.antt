@@ -6,5 +6,5 @@ pub invariant_of-self-2 : goal.invariant_of-self-2
 invariant_of-self-2 g c =
     let inside = c.self.inside in
     let done = c.in_ok-done.ensures in
-    IsKept-set (record { head = inside.head; guests = inside.guests.items }) inside.occupied inside.open_words c.self.invariant inside.head c.args.slot c.args.generation
+    IsKept-set (record { head = inside.head; guests = inside.guests.items }) inside.occupied c.self.invariant inside.head c.args.slot c.args.generation
     c.args.words.now zero refl c.in_ok-done.done c.set_held.new.self done.found done.set done.unknown

@@ -1,9 +1,7 @@
 use Rattle.std.proofs.Common.{◌∙◌, ◌∷◌, subst, sym}
 use Rattle.bitmap.specs.Slots.{AreDisjoint}
 use Rattle.groups.specs.Spans.{SpansState, all_spans, union_of}
-use Rattle.span.specs.Classes.{slots_in}
 use Rattle.span.specs.Log.{worn_slots}
-use Rattle.groups.proofs.OpenWords.{IsFullOutside-joined}
 use Rattle.groups.proofs.Guests.{AreApart-append, union_of-append}
 use Rattle.groups.proofs.spans.Spans.take_guests.Goals as goal
 
@@ -17,7 +15,4 @@ invariant_of-self g c =
     record {
       occupied_is = rw c.append_all.ensures.guests (c.union-self-inside.ensures ∙ rw (c.self.invariant.occupied_is, c.spans.invariant.occupied_is) (sym (union_of-append mine theirs)));
       apart = rw c.append_all.ensures.guests (AreApart-append mine theirs c.self.invariant.apart c.spans.invariant.apart apart);
-      shut = rw (c.append_all.ensures.guests, union_of-append mine theirs)
-          (IsFullOutside-joined c.self.inside.open_words (slots_in c.self.inside.head.class) (union_of mine) (union_of theirs)
-          (worn_slots c.self.inside.head.gens c.self.inside.head.log) c.self.invariant.shut);
     }

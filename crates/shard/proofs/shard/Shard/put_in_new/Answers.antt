@@ -1,4 +1,4 @@
-use Rattle.std.proofs.Common.{◌≡◌, ℕ, ◌≤◌, ◌<◌, ◌∙◌, ◌+◌, List, [], Some, false, length, insert, ap, sym, subst, refl, inl, inr, arith}
+use Rattle.std.proofs.Common.{◌/◌, ◌*◌, ◌≡◌, ℕ, ◌≤◌, ◌<◌, ◌∙◌, ◌+◌, List, [], Some, false, length, insert, ap, sym, subst, refl, inl, inr, arith}
 use Rattle.std.proofs.lemmas.Bool.{cases_lt}
 use Rattle.std.proofs.lemmas.Option.{slice_get_within}
 use Rattle.std.specs.FinSet as set
@@ -78,12 +78,12 @@ place_now g c =
     IsPlaceFor-lower c.self.inside.groups.items c.in-Some.id c.lower_heads-index.result (lower_now g c)
     (no_head_next (state_of c.self.inside) c.self.invariant.sound c.in-Some.id c.in-Some.ensures.parts.0 c.in-Some.ensures.parts.1)
 
-below_now : (g : _) (c : goal.After-self-3-1 g) → (class : Class) (n : ℕ) → n < c.lower_heads-index.result
+below_now : (g : _) (c : goal.After-self-3-1 g) → (class : Class) (n : ℕ) → n / 4 < c.lower_heads-index.result
     → contains (rooms_of c.note_arrival.new.self class) n ≡ contains (rooms_of c.self.inside.rooms class) n
 below_now g c class n less = c.note_arrival.ensures.below class n less ∙ ap (λ s. contains s n) (c.in_ok-reserve.ensures.same class)
 
-above_now : (g : _) (c : goal.After-self-3-1 g) → (class : Class) (n : ℕ) → c.lower_heads-index.result ≤ n
-    → contains (rooms_of c.note_arrival.new.self class) (n + 1) ≡ contains (rooms_of c.self.inside.rooms class) n
+above_now : (g : _) (c : goal.After-self-3-1 g) → (class : Class) (n : ℕ) → c.lower_heads-index.result ≤ n / 4
+    → contains (rooms_of c.note_arrival.new.self class) (n + 4) ≡ contains (rooms_of c.self.inside.rooms class) n
 above_now g c class n from = c.note_arrival.ensures.above class n from ∙ ap (λ s. contains s n) (c.in_ok-reserve.ensures.same class)
 
 -- the byte of the group before it may be another
@@ -114,7 +114,7 @@ room_before g c index group there =
 
 -- and so has that of the class
 room_here : (g : _) (c : goal.After-self-3-1 g)
-    → length c.insert_reserved.new.self.items + c.saturating_sub-self-inside.result ≤ room_of c.note_arrival.new.self c.args.class
+    → 4 * (length c.insert_reserved.new.self.items + c.saturating_sub-self-inside.result) ≤ room_of c.note_arrival.new.self c.args.class
 room_here g c =
     let own = c.in_ok-reserve.ensures.ok c.args.class (omega arith) in
     elim (cases_lt 0 c.self.inside.group_room) [
@@ -154,7 +154,7 @@ invariant_of-self-2 g c = record {
   rooms = λ class. rw (groups_now g c) (elim (cases_class (made g c).head.class class) [
     | inl same ↦ HasRooms-arrived class c.self.inside.groups.items (rooms_of c.self.inside.rooms class) (c.self.invariant.rooms class) c.lower_heads-index.result
         (made g c) (place_now g c).within (rooms_of c.note_arrival.new.self class) (below_now g c class) (above_now g c class) same
-        (ap (λ k. contains (rooms_of c.note_arrival.new.self k) c.lower_heads-index.result) (sym same) ∙ c.note_arrival.ensures.this)
+        (λ n at. ap (λ k. contains (rooms_of c.note_arrival.new.self k) n) (sym same) ∙ c.note_arrival.ensures.this n at)
     | inr apart ↦ HasRooms-arrived_other class c.self.inside.groups.items (rooms_of c.self.inside.rooms class) (c.self.invariant.rooms class) c.lower_heads-index.result
         (made g c) (place_now g c).within (rooms_of c.note_arrival.new.self class) (below_now g c class) (above_now g c class) apart
         (c.note_arrival.ensures.others class (λ e. apart (sym e)))

@@ -4,11 +4,11 @@ use Rattle.shard.specs.Kept.{IsKept, state_of}
 use Rattle.shard.specs.Rooms.{rooms_of}
 use Rattle.shard.proofs.shard.Shard.put_searched.Given as goal
 
-abbrev pub invariant-loop-index : goal.invariant-loop-index
-invariant-loop-index g l = record {
+abbrev pub invariant-loop-number : goal.invariant-loop-number
+invariant-loop-number g l = record {
   kept : IsKept l.self-inside;
   same : state_of l.self-inside ≡ l.fn.self;
 }
 
-abbrev pub decreases-loop-index : goal.decreases-loop-index
-decreases-loop-index g l = len (rooms_of l.self-inside.rooms l.class)
+abbrev pub decreases-loop-number : goal.decreases-loop-number
+decreases-loop-number g l = len (rooms_of l.self-inside.rooms l.class)

@@ -17,7 +17,7 @@ use Rattle.shard.proofs.Here.{found_in, here_read, index_within, place_within, r
 use Rattle.groups.proofs.Lists.{set-same}
 use Rattle.shard.proofs.ReplacedGroup.{IsSound-set}
 use Rattle.shard.proofs.RoomBits.{HasRooms-full}
-use Rattle.shard.proofs.SetHere.{HasNoRoom-set}
+use Rattle.shard.proofs.SetHere.{HasNoRoomIn-set}
 use Rattle.groups.proofs.ShownChanges.{may_set-settable}
 use Rattle.shard.proofs.ShownLogs.{IsSound-Sets, shown-Sets, was_replaced-Sets}
 use Rattle.groups.proofs.ReplacedGroups.{AreAlike-with_span}
@@ -147,7 +147,7 @@ invariant_of-self-2 g c =
     (λ class. HasRooms-full class c.self.inside.groups.items (rooms_of c.self.inside.rooms class) (kept.rooms class) c.args.index
     (set_group group place span key.slot key.generation words) group here.group_is
     (class-with_span group place span (with_set_at span key.slot key.generation words) here.span_is refl)
-    (HasNoRoom-set group span key.slot key.generation words place here.span_is (kept.sound.groups c.args.index group here.group_is).apart (settable_now g c) c.self.inside.slot_limit class))
+    (HasNoRoomIn-set group span key.slot key.generation words place here.span_is (kept.sound.groups c.args.index group here.group_is).apart (settable_now g c) c.self.inside.slot_limit class))
     (λ class. omega arith)
     (KnowsLeast-set IsLeast c.self.inside.groups.items c.self.inside.least.items kept.least_known c.args.index group (set_group group place span key.slot key.generation words) here.group_is
     (IsLeast-set group (kept.sound.groups c.args.index group here.group_is) place span here.span_is key.slot key.generation words (settable_now g c).0))
