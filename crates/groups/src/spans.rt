@@ -157,8 +157,7 @@ impl<L: Log> Spans<L> {
     #[inline(always)]
     pub fn find_in(&self, slot_limit: u16, word: usize) -> Option<Vacancy>
         requires { word < 4 }
-        ensures { MatchOption result
-            (HasAllIn slot_limit self.now.head.class (taken self.now) word)
+        ensures { MatchOption result (HasAllIn slot_limit self.now.head.class (taken self.now) word)
             (IsVacantIn slot_limit self.now word) }
     {
         let Some(found) = self.head.lowest_unused_in(&self.occupied, word) else {

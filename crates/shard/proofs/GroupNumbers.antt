@@ -159,3 +159,11 @@ module _ (from to few : ℕ) (order : to < from) (low : few < 4) (old now after 
     ];
     same = λ n apart. next.same n (apart few (omega arith)).0 (apart few (omega arith)).1 ∙ moved.same n (λ k under. apart k (omega (arith, under)));
   }
+
+-- the first of them
+pub AreMoved-first : (from to : ℕ) → to < from → (old after : SlotSet) → IsMoved (4 * from) (4 * to) old after → AreMoved from to 1 old after
+AreMoved-first from to order old after moved = AreMoved-next from to 0 order (omega arith) old old after (AreMoved-none from to old) (record {
+  this = ap (contains after) (omega arith) ∙ moved.this ∙ ap (contains old) (omega arith);
+  gone = ap (contains after) (omega arith) ∙ moved.gone;
+  same = λ n apart other. moved.same n (λ e. apart (omega (arith, e))) (λ e. other (omega (arith, e)));
+})

@@ -96,7 +96,7 @@ IsPageOf-freed spans new is_paged page place slot generation within kept false f
 
 -- a word with a slot for a put is not full
 pub not_full : (slot_limit : ℕ) (spans : SpansState) (word : ℕ) (found : Vacancy) → IsVacantIn slot_limit spans word found → HasAllIn slot_limit spans.head.class (taken spans) word → ⊥
-not_full slot_limit spans word found vacant full = false≢true (sym vacant.1.0.outside ∙ full found.slot vacant.1.0.in_word vacant.0)
+not_full slot_limit spans word found vacant full = false≢true (sym vacant.1.outside ∙ full found.slot vacant.1.in_word vacant.0)
 
 -- what a set did for which the page may have grown
 module _ (spans new : SpansState) (is_paged : Bool) (page now : PageState) (place : ℕ) (span : SpanState) (slot generation : ℕ) (value : Value)

@@ -53,7 +53,8 @@ pub(crate) fn reserve_all(sets: &mut Vec<NumberSet>, count: usize) -> Result<(),
 
 /// Moves the numbers of the groups from this one on up by those of one in each set.
 pub(crate) fn shift_all_up(sets: &mut Vec<NumberSet>, index: usize)
-    requires { (n : ℕ) → HasRoomAt index (set_at sets.old.items n) }
+    requires small { index < MOST_NUMBERS }
+    requires room { (n : ℕ) → HasRoomAt index (set_at sets.old.items n) }
     ensures shifted { (n : ℕ) →
         IsShiftedUp index (set_at sets.old.items n) (set_at sets.new.items n) }
     ensures len { vec_len sets.new ≡ vec_len sets.old }
@@ -66,7 +67,8 @@ pub(crate) fn shift_all_up(sets: &mut Vec<NumberSet>, index: usize)
 /// Moves the numbers of the groups from this one on up by those of one. Of an empty set it takes a
 /// look alone.
 pub(crate) fn shift_up(set: &mut NumberSet, index: usize)
-    requires { HasRoomAt index set.old }
+    requires small { index < MOST_NUMBERS }
+    requires room { HasRoomAt index set.old }
     ensures { IsShiftedUp index set.old set.new }
 {
     if set.lowest().is_none() {

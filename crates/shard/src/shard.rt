@@ -62,10 +62,10 @@ pub enum Freed {
 /// The groups of spans that one thread owns, by ascending head, each with its page of 256 words, or
 /// with none where nothing is live.
 ///
-/// It keeps that it is sound, that a group whose index is not in `rooms` has no usable slot, and
-/// that one whose index is in the set of a class is of that class. `heads` says of the last heads
-/// that it opened at which index they stand, and `notes` of the last spans that it opened whether
-/// they are guests here.
+/// It keeps that it is sound, that a word whose number is not in `rooms` has no usable slot, and
+/// that a group of which the set of a class has a number is of that class. `heads` says of the last
+/// heads that it opened at which index they stand, and `notes` of the last spans that it opened
+/// whether they are guests here.
 #[derive(Drop)]
 pub struct Shard<L: Log = Kept> {
     alloc: Global,

@@ -1,5 +1,6 @@
 // Groups that leave one after another, while their places stay until all have left.
 ghost use Rattle.std.specs.Prelude.{◌≡◌, ◌≤◌, filter, length};
+ghost use Rattle.bitmap.specs.declared.numbers.TheConstants.{MOST_NUMBERS};
 ghost use Rattle.shard.specs.Leaving.{has_stayed, swept};
 ghost use Rattle.shard.specs.Moves.{Lifts};
 ghost use Rattle.shard.specs.Rooms.{HaveRoom, RoomsFollow, room_of};
@@ -56,7 +57,8 @@ impl<L: Log> Shard<L> {
 // Has the sets name the groups that have not left by the indexes that they get where the others'
 // places go.
 fn sweep_rooms<L: Log>(groups: &GroupRow<L>, rooms: &mut ClassRooms)
-    requires { HaveRoom groups.now.items rooms.old (length groups.now.items) }
+    requires few { length groups.now.items ≤ MOST_NUMBERS }
+    requires room { HaveRoom groups.now.items rooms.old (length groups.now.items) }
     ensures has { RoomsFollow groups.now.items (filter has_stayed groups.now.items) rooms.old
         rooms.new }
     ensures room { (class : Class) → room_of rooms.new class ≡ room_of rooms.old class }

@@ -18,13 +18,13 @@ pub returns-clause-room : goal.returns-clause-room
 returns-clause-room c other = c.insert-4.ensures.room other ∙ c.insert-3.ensures.room other ∙ c.insert-2.ensures.room other ∙ c.insert.ensures.room other
 
 pub insert-requires : goal.insert-requires
-insert-requires c = omega (arith, c.requires)
+insert-requires c = omega (arith, c.requires.room)
 
-pub insert-2-requires : goal.insert-2-requires
-insert-2-requires c = omega (arith, c.requires, c.insert.ensures.room c.args.class)
+pub insert-requires-2 : goal.insert-requires-2
+insert-requires-2 c = omega (arith, c.requires.room, c.insert.ensures.room c.args.class)
 
-pub insert-3-requires : goal.insert-3-requires
-insert-3-requires c = omega (arith, c.requires, c.insert.ensures.room c.args.class, c.insert-2.ensures.room c.args.class)
+pub insert-requires-3 : goal.insert-requires-3
+insert-requires-3 c = omega (arith, c.requires.room, c.insert.ensures.room c.args.class, c.insert-2.ensures.room c.args.class)
 
-pub insert-4-requires : goal.insert-4-requires
-insert-4-requires c = omega (arith, c.requires, c.insert.ensures.room c.args.class, c.insert-2.ensures.room c.args.class, c.insert-3.ensures.room c.args.class)
+pub insert-requires-4 : goal.insert-requires-4
+insert-requires-4 c = omega (arith, c.requires.room, c.insert.ensures.room c.args.class, c.insert-2.ensures.room c.args.class, c.insert-3.ensures.room c.args.class)

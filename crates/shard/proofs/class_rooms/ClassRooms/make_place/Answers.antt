@@ -15,7 +15,7 @@ returns-then-index-count-clause-this c class n at = none_from c class n (omega (
 pub returns-then-index-count-clause-above : goal.returns-then-index-count-clause-above
 returns-then-index-count-clause-above c class n from = none_from c class (n + 4) (omega (arith, from)) ∙ sym (none_from c class n from)
 
-pub shift_up-requires : goal.shift_up-requires
-shift_up-requires c class n member =
+pub shift_up-requires-clause-room : goal.shift_up-requires-clause-room
+shift_up-requires-clause-room c class n member =
     let had = c.requires.had class n member in
     (omega (arith, had.1, c.if-index-count.false), omega (arith, had.0, had.1))

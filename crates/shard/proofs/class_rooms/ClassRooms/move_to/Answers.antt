@@ -1,7 +1,7 @@
 use Rattle.std.proofs.Common.{◌≡◌, ◌<◌, ◌+◌, ◌*◌, ◌/◌, ◌-◌, ◌∙◌, ℕ, ap, arith}
 use Rattle.std.specs.FinSet.{contains}
 use Rattle.shard.specs.Rooms.{rooms_of}
-use Rattle.shard.proofs.GroupNumbers.{AreMoved, AreMoved-next, AreMoved-none}
+use Rattle.shard.proofs.GroupNumbers.{AreMoved, AreMoved-first, AreMoved-next}
 use Rattle.shard.proofs.class_rooms.ClassRooms.move_to.Goals as goal
 
 -- another group's place is below
@@ -11,8 +11,7 @@ before c = omega (arith, c.requires.order, c.if-to-from.false)
 -- all four have moved
 moved : (c : goal.After-move_number-4) → AreMoved c.args.from c.args.to 4 (rooms_of c.args.self.now c.args.class) (rooms_of c.move_number-4.new.self c.args.class)
 moved c =
-    let none = AreMoved-none c.args.from c.args.to (rooms_of c.args.self.now c.args.class) in
-    let first = AreMoved-next c.args.from c.args.to 0 (before c) (omega arith) (rooms_of c.args.self.now c.args.class) (rooms_of c.args.self.now c.args.class) (rooms_of c.move_number.new.self c.args.class) none c.move_number.ensures.moved in
+    let first = AreMoved-first c.args.from c.args.to (before c) (rooms_of c.args.self.now c.args.class) (rooms_of c.move_number.new.self c.args.class) c.move_number.ensures.moved in
     let second = AreMoved-next c.args.from c.args.to 1 (before c) (omega arith) (rooms_of c.args.self.now c.args.class) (rooms_of c.move_number.new.self c.args.class) (rooms_of c.move_number-2.new.self c.args.class) first c.move_number-2.ensures.moved in
     let third = AreMoved-next c.args.from c.args.to 2 (before c) (omega arith) (rooms_of c.args.self.now c.args.class) (rooms_of c.move_number-2.new.self c.args.class) (rooms_of c.move_number-3.new.self c.args.class) second c.move_number-3.ensures.moved in
     AreMoved-next c.args.from c.args.to 3 (before c) (omega arith) (rooms_of c.args.self.now c.args.class) (rooms_of c.move_number-3.new.self c.args.class) (rooms_of c.move_number-4.new.self c.args.class) third c.move_number-4.ensures.moved
@@ -42,20 +41,20 @@ move_number-requires-clause-order c = omega (arith, c.requires.order, c.if-to-fr
 pub move_number-requires-clause-room : goal.move_number-requires-clause-room
 move_number-requires-clause-room c = omega (arith, c.requires.room)
 
-pub move_number-2-requires-clause-order : goal.move_number-2-requires-clause-order
-move_number-2-requires-clause-order c = omega (arith, c.requires.order, c.if-to-from.false)
+pub move_number-requires-2-clause-order : goal.move_number-requires-2-clause-order
+move_number-requires-2-clause-order c = omega (arith, c.requires.order, c.if-to-from.false)
 
-pub move_number-2-requires-clause-room : goal.move_number-2-requires-clause-room
-move_number-2-requires-clause-room c = omega (arith, c.requires.room, c.move_number.ensures.room c.args.class)
+pub move_number-requires-2-clause-room : goal.move_number-requires-2-clause-room
+move_number-requires-2-clause-room c = omega (arith, c.requires.room, c.move_number.ensures.room c.args.class)
 
-pub move_number-3-requires-clause-order : goal.move_number-3-requires-clause-order
-move_number-3-requires-clause-order c = omega (arith, c.requires.order, c.if-to-from.false)
+pub move_number-requires-3-clause-order : goal.move_number-requires-3-clause-order
+move_number-requires-3-clause-order c = omega (arith, c.requires.order, c.if-to-from.false)
 
-pub move_number-3-requires-clause-room : goal.move_number-3-requires-clause-room
-move_number-3-requires-clause-room c = omega (arith, c.requires.room, c.move_number.ensures.room c.args.class, c.move_number-2.ensures.room c.args.class)
+pub move_number-requires-3-clause-room : goal.move_number-requires-3-clause-room
+move_number-requires-3-clause-room c = omega (arith, c.requires.room, c.move_number.ensures.room c.args.class, c.move_number-2.ensures.room c.args.class)
 
-pub move_number-4-requires-clause-order : goal.move_number-4-requires-clause-order
-move_number-4-requires-clause-order c = omega (arith, c.requires.order, c.if-to-from.false)
+pub move_number-requires-4-clause-order : goal.move_number-requires-4-clause-order
+move_number-requires-4-clause-order c = omega (arith, c.requires.order, c.if-to-from.false)
 
-pub move_number-4-requires-clause-room : goal.move_number-4-requires-clause-room
-move_number-4-requires-clause-room c = omega (arith, c.requires.room, c.move_number.ensures.room c.args.class, c.move_number-2.ensures.room c.args.class, c.move_number-3.ensures.room c.args.class)
+pub move_number-requires-4-clause-room : goal.move_number-requires-4-clause-room
+move_number-requires-4-clause-room c = omega (arith, c.requires.room, c.move_number.ensures.room c.args.class, c.move_number-2.ensures.room c.args.class, c.move_number-3.ensures.room c.args.class)

@@ -22,5 +22,5 @@ returns-clause-others c other differs n at = ap (λ s. contains s n) (c.insert_a
 pub returns-clause-above : goal.returns-clause-above
 returns-clause-above c other n from = apart_from c other (n + 4) (λ e. absurd (omega (arith, e, from))) ∙ c.make_place.ensures.above other n from
 
-pub insert_all-requires : goal.insert_all-requires
-insert_all-requires c = omega (arith, c.make_place.ensures.room c.args.class, c.requires.room, c.requires.within)
+pub insert_all-requires-clause-room : goal.insert_all-requires-clause-room
+insert_all-requires-clause-room c = omega (arith, c.make_place.ensures.room c.args.class, c.requires.room, c.requires.within)

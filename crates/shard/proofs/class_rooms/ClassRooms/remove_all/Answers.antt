@@ -18,13 +18,13 @@ pub returns-clause-room : goal.returns-clause-room
 returns-clause-room c other = c.remove-4.ensures.room other ∙ c.remove-3.ensures.room other ∙ c.remove-2.ensures.room other ∙ c.remove.ensures.room other
 
 pub remove-requires : goal.remove-requires
-remove-requires c = omega (arith, c.requires)
+remove-requires c = omega (arith, c.requires.room)
 
-pub remove-2-requires : goal.remove-2-requires
-remove-2-requires c = omega (arith, c.requires, c.remove.ensures.room c.args.class)
+pub remove-requires-2 : goal.remove-requires-2
+remove-requires-2 c = omega (arith, c.requires.room, c.remove.ensures.room c.args.class)
 
-pub remove-3-requires : goal.remove-3-requires
-remove-3-requires c = omega (arith, c.requires, c.remove.ensures.room c.args.class, c.remove-2.ensures.room c.args.class)
+pub remove-requires-3 : goal.remove-requires-3
+remove-requires-3 c = omega (arith, c.requires.room, c.remove.ensures.room c.args.class, c.remove-2.ensures.room c.args.class)
 
-pub remove-4-requires : goal.remove-4-requires
-remove-4-requires c = omega (arith, c.requires, c.remove.ensures.room c.args.class, c.remove-2.ensures.room c.args.class, c.remove-3.ensures.room c.args.class)
+pub remove-requires-4 : goal.remove-requires-4
+remove-requires-4 c = omega (arith, c.requires.room, c.remove.ensures.room c.args.class, c.remove-2.ensures.room c.args.class, c.remove-3.ensures.room c.args.class)

@@ -6,12 +6,12 @@ use Rattle.shard.proofs.Classes.{HasRoomAt-each}
 use Rattle.span.specs.declared.class.Class.{Class}
 use Rattle.shard.proofs.class_rooms.ClassRooms.shift_up.Goals as goal
 
-pub shift_up-requires : goal.shift_up-requires
-shift_up-requires c =
+pub shift_up-requires-clause-room : goal.shift_up-requires-clause-room
+shift_up-requires-clause-room c =
     HasRoomAt-each c.args.index (c.self.inside.narrow ∷ c.self.inside.wider.items) (omega (arith, c.self.invariant))
-    (subst (λ (sets : List NumbersState). (class : Class) → HasRoomAt c.args.index (set_at sets (number_of class))) (sym c.self.view_is) c.requires) 0
+    (subst (λ (sets : List NumbersState). (class : Class) → HasRoomAt c.args.index (set_at sets (number_of class))) (sym c.self.view_is) c.requires.room) 0
 
-pub shift_all_up-requires : goal.shift_all_up-requires
-shift_all_up-requires c n =
+pub shift_all_up-requires-clause-room : goal.shift_all_up-requires-clause-room
+shift_all_up-requires-clause-room c n =
     HasRoomAt-each c.args.index (c.self.inside.narrow ∷ c.self.inside.wider.items) (omega (arith, c.self.invariant))
-    (subst (λ (sets : List NumbersState). (class : Class) → HasRoomAt c.args.index (set_at sets (number_of class))) (sym c.self.view_is) c.requires) (suc n)
+    (subst (λ (sets : List NumbersState). (class : Class) → HasRoomAt c.args.index (set_at sets (number_of class))) (sym c.self.view_is) c.requires.room) (suc n)

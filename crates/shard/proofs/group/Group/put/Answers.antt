@@ -26,4 +26,4 @@ returns-in_err-key-clause-room g c =
 pub returns-clause-full : goal.returns-clause-full
 returns-clause-full g c full =
     inr (inr (subst (λ (s : SpansState). HasAllIn c.args.slot_limit s.head.class (taken s) c.args.word) (sym c.in_ok-key.ensures.ok)
-    (λ q at low. taken-put c.self.inside.spans c.in-Some.found.slot c.args.words.now q (c.in-Some.ensures.1.1 full q at))))
+    (λ q at low. taken-put c.self.inside.spans c.in-Some.found.slot c.args.words.now q (c.in-Some.ensures.2 full q at))))

@@ -1,8 +1,8 @@
-use Rattle.std.proofs.Common.{◌≡◌, ◌∙◌, ℕ, Some, slice_get, List, ap, arith, set, sym, subst, refl, inl, inr}
+use Rattle.std.proofs.Common.{◌+◌, ◌*◌, ◌/◌, ◌%◌, ◌≡◌, ◌∙◌, ℕ, Some, slice_get, List, ap, arith, set, sym, subst, refl, inl, inr}
 use Rattle.std.proofs.lemmas.Bool.{true≢false}
 use Rattle.std.proofs.lemmas.Option.{slice_get_within}
 use Rattle.span.specs.Log.{Holds}
-use Rattle.shard.specs.Group.{GroupState}
+use Rattle.shard.specs.Group.{GroupState, HasNoRoomIn}
 use Rattle.groups.specs.Group.{IsHere, with_span}
 use Rattle.groups.specs.Spans.{with_free}
 use Rattle.shard.specs.Kept.{state_of}
@@ -13,6 +13,7 @@ use Rattle.shard.specs.declared.shard.Freed.TheVariants.{No, Yes}
 use Rattle.shard.proofs.Here.{found_in, here_read, read_is}
 use Rattle.groups.proofs.Lists.{set-same}
 use Rattle.shard.proofs.Classes.{cases_class, class-with_span}
+use Rattle.shard.proofs.GroupWords.{HasNoRoomIn-freed}
 use Rattle.shard.proofs.ReplacedGroup.{IsSound-free}
 use Rattle.shard.proofs.RoomBits.{HasRooms-free, HasRooms-other}
 use Rattle.shard.proofs.ShownLogs.{IsSound-Frees, shown-Frees, was_freed-Frees}
@@ -82,6 +83,13 @@ freed_now g c = (c.if-not-free.ensures {u = tt}).freed c.span_at.result.now c.sp
 held : (g : _) (c : goal.After-insert g) → Holds c.span_at.result.now.log c.args.key.now.slot c.args.key.now.generation
 held g c = ((c.if-not-free.ensures {u = tt}).found c.span_at.result.now c.span_at.ensures).0 refl
 
+-- the number is that of the slot's word in the group
+number_here : (g : _) (c : goal.After-insert g) → (4 * c.args.index + c.from.result) / 4 ≡ c.args.index
+number_here g c = omega (arith, c.from.ensures)
+
+word_here : (g : _) (c : goal.After-insert g) → (4 * c.args.index + c.from.result) % 4 ≡ c.args.key.now.slot / 64
+word_here g c = omega (arith, c.from.ensures)
+
 pub invariant_of-self-2 : goal.invariant_of-self-2
 invariant_of-self-2 g c =
     let here = here_now g c in
@@ -99,7 +107,11 @@ invariant_of-self-2 g c =
     (λ class. rw (← freed_now g c) (elim (cases_class class c.class-class.result) [
       | inl same ↦ rw (same, c.insert.ensures.this)
           (HasRooms-free c.class-class.result c.self.inside.groups.items (rooms_of c.self.inside.rooms c.class-class.result)
-          (kept.rooms c.class-class.result) c.args.index c.free.new.self (slice_get_within c.self.inside.groups.items c.args.index group here.group_is) (sym c.class-class.ensures))
+          (kept.rooms c.class-class.result) c.args.index c.free.new.self group here.group_is
+          (ap (λ (g : GroupState). g.head.class) (freed_now g c) ∙ class-with_span group place span (with_free span key) here.span_is refl) (sym c.class-class.ensures) _ (number_here g c)
+          (λ word other none. subst (λ (g : GroupState). HasNoRoomIn c.self.inside.slot_limit c.class-class.result g word) (sym (freed_now g c))
+          (HasNoRoomIn-freed group span key.slot key.generation place here.span_is (kept.sound.groups c.args.index group here.group_is).apart (held g c) c.self.inside.slot_limit c.class-class.result word
+          (λ e. other (e ∙ sym (word_here g c))) none)))
       | inr apart ↦ rw (c.insert.ensures.others class apart)
           (HasRooms-other class c.self.inside.groups.items (rooms_of c.self.inside.rooms class) (kept.rooms class) c.args.index c.free.new.self group here.group_is
           (ap (λ (g : GroupState). g.head.class) (freed_now g c) ∙ class-with_span group place span (with_free span key) here.span_is refl) (λ e. apart (sym e ∙ sym c.class-class.ensures)))

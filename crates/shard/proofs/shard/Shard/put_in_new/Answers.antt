@@ -233,6 +233,11 @@ invariant_of-self-in_err-reserve g c =
     (omega (arith, c.in_ok-reserve_group.ensures.capacity)) (λ class. rw (c.in_err-reserve.ensures.same class) (c.self.invariant.rooms class))
     (λ class. omega (arith, c.in_err-reserve.ensures.more class))
 
+pub note_arrival-requires-clause-few : goal.note_arrival-requires-clause-few
+note_arrival-requires-clause-few g c =
+    let pages = subst (λ (s : ShardState). length s.groups < s.page_limit) (sym c.self.view_is) c.requires.pages in
+    omega (arith, pages, c.self.invariant.pages_fit, c.len-2.ensures, c.insert_reserved.ensures.len, c.in_ok-reserve_group.ensures.len)
+
 pub note_arrival-requires-clause-room : goal.note_arrival-requires-clause-room
 note_arrival-requires-clause-room g c =
     omega (arith, c.in_ok-reserve.ensures.ok c.args.class (omega arith), c.len.ensures, c.len-2.ensures, c.insert_reserved.ensures.len, c.in_ok-reserve_group.ensures.len)

@@ -58,7 +58,7 @@ returns-in_err-key-clause-spent g c =
     let refused = err_from_is_err_and c.from_residual.result c.from_residual.ensures.1 in (
       (λ e. absurd (let spent = sym e ∙ refused.1 in search rules)),
       λ spent. absurd ((c.in_err-key.ensures {u = tt}).room
-          (HasNoRoomIn-none _ _ _ _ (subst (λ (shard : ShardState). IsFull shard.slot_limit c.args.class shard.groups) (sym c.loop-number.invariant.same) spent.1.0 (c.in-Some.number / 4) group here))),
+          (HasNoRoomIn-none c.loop-number.self-inside.slot_limit c.args.class group (c.in-Some.number % 4) (subst (λ (shard : ShardState). IsFull shard.slot_limit c.args.class shard.groups) (sym c.loop-number.invariant.same) spent.1.0 (c.in-Some.number / 4) group here))),
     )
 
 -- the group took the put, and leaves the set where it is full then
@@ -121,7 +121,7 @@ returns-in-Some-2-clause-spent g c =
     let here = group_here s c.loop-number.invariant.kept c.args.class c.in-Some.number group c.in-Some.ensures.lowest c.index_mut-group.ensures.value in (
       (λ e. absurd (search rules)),
       λ spent. absurd (HasNoRoomIn-usable c.args.class group (c.in-Some.number % 4) c.in-Some-2.field-0.key.slot usable
-          (HasNoRoomIn-none _ _ _ _ (subst (λ (shard : ShardState). IsFull shard.slot_limit c.args.class shard.groups) (sym c.loop-number.invariant.same) spent.1.0 (c.in-Some.number / 4) group here))),
+          (HasNoRoomIn-none c.loop-number.self-inside.slot_limit c.args.class group (c.in-Some.number % 4) (subst (λ (shard : ShardState). IsFull shard.slot_limit c.args.class shard.groups) (sym c.loop-number.invariant.same) spent.1.0 (c.in-Some.number / 4) group here))),
     )
 
 -- the group has no usable slot

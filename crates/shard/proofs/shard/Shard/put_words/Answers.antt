@@ -56,7 +56,7 @@ returns-in_err-key-clause-spent g c =
     let refused = err_from_is_err_and c.from_residual.result c.from_residual.ensures.1 in (
       (λ e. absurd (let spent = sym e ∙ refused.1 in search rules)),
       λ spent. absurd ((c.in_err-key.ensures {u = tt}).room
-          (HasNoRoomIn-none _ _ _ _ (subst (λ (shard : ShardState). IsFull shard.slot_limit c.args.class shard.groups) (sym c.self.view_is) spent.1.0 (c.in-Some.number / 4) group here))),
+          (HasNoRoomIn-none c.self.inside.slot_limit c.args.class group (c.in-Some.number % 4) (subst (λ (shard : ShardState). IsFull shard.slot_limit c.args.class shard.groups) (sym c.self.view_is) spent.1.0 (c.in-Some.number / 4) group here))),
     )
 
 -- the group took the put, and leaves the set where it is full then
@@ -119,7 +119,7 @@ returns-clause-spent g c =
     let here = group_here s c.self.invariant c.args.class c.in-Some.number group c.in-Some.ensures.lowest c.index_mut-group.ensures.value in (
       (λ e. absurd (search rules)),
       λ spent. absurd (HasNoRoomIn-usable c.args.class group (c.in-Some.number % 4) c.in-Some-2.field-0.key.slot usable
-          (HasNoRoomIn-none _ _ _ _ (subst (λ (shard : ShardState). IsFull shard.slot_limit c.args.class shard.groups) (sym c.self.view_is) spent.1.0 (c.in-Some.number / 4) group here))),
+          (HasNoRoomIn-none c.self.inside.slot_limit c.args.class group (c.in-Some.number % 4) (subst (λ (shard : ShardState). IsFull shard.slot_limit c.args.class shard.groups) (sym c.self.view_is) spent.1.0 (c.in-Some.number / 4) group here))),
     )
 
 -- the group takes none, and is as it was

@@ -7,8 +7,11 @@ use Rattle.shard.proofs.KnownHeads.{AreReady-swept}
 use Rattle.shard.proofs.Left.{HasGuestRoom-swept, IsSound-swept, KnowsGuests-swept, length-stayed}
 use Rattle.shard.proofs.shard.Shard.sweep.Goals as goal
 
-pub sweep_rooms-requires : goal.sweep_rooms-requires
-sweep_rooms-requires g c =
+pub sweep_rooms-requires-clause-few : goal.sweep_rooms-requires-clause-few
+sweep_rooms-requires-clause-few g c = omega (arith, c.self.invariant.sound.limit, c.self.invariant.pages_fit)
+
+pub sweep_rooms-requires-clause-room : goal.sweep_rooms-requires-clause-room
+sweep_rooms-requires-clause-room g c =
     HaveRoom-same c.self.inside.groups.items c.self.inside.rooms _ c.self.invariant.room_for_rooms _ refl c.self.inside.rooms _
     (omega arith) (λ class. omega arith)
 

@@ -12,7 +12,7 @@ returns-clause-has g c groups here slot_limit noted class =
     elim (cases_class class c.class.result) [
       | inl same ↦ rw same
           (HasRooms-open c.class.result groups (rooms_of c.args.rooms.now c.class.result) (rw (← same) has) c.args.index c.reopen.new.self c.args.group.now here
-          (ap (λ (g : GroupState). g.head.class) c.reopen.ensures) (sym c.class.ensures) (rooms_of c.insert_all.new.rooms c.class.result) c.insert_all.ensures.same c.insert_all.ensures.this)
+          (ap (λ (g : GroupState). g.head.class) c.reopen.ensures) (sym c.class.ensures) (rooms_of c.insert_all.new.self c.class.result) c.insert_all.ensures.same c.insert_all.ensures.this)
       | inr apart ↦ rw (c.insert_all.ensures.others class apart)
           (HasRooms-other class groups (rooms_of c.args.rooms.now class) has c.args.index c.reopen.new.self c.args.group.now here
           (ap (λ (g : GroupState). g.head.class) c.reopen.ensures) (λ e. apart (sym e ∙ sym c.class.ensures)))
