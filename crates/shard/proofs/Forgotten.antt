@@ -1,6 +1,6 @@
 -- What stays where groups lose the guests in which no slot is live.
 use Rattle.std.proofs.Common.{◌%◌, ◌/◌, zero, suc, ◌≡◌, ℕ, ◌≤◌, Bool, true, cond, List, [], ◌∷◌, Option, Some, slice_get, ◌∙◌, ap, sym, subst, arith, inl, inr, refl, rules}
-use Rattle.std.specs.Prelude.{map as map_list, remove}
+use Rattle.std.specs.Prelude.{map as map_list, option_map, remove}
 use Rattle.std.proofs.lemmas.Bool.{cases_eq}
 use Rattle.std.proofs.lemmas.List.{length-map}
 use Rattle.bitmap.specs.Slots.{SlotSet}
@@ -16,7 +16,10 @@ use Rattle.groups.proofs.Lists.{before-map, count-cons, count-some, same_some}
 use Rattle.groups.proofs.Removed.{after-remove}
 use Rattle.span.proofs.Ids.{test_from_same_id}
 use Rattle.shard.specs.HeadWindow.{HeadWindow}
-use Rattle.shard.specs.Heads.{KnowsHeads}
+use Rattle.shard.specs.Heads.{KnowsHeads, KnowsNoHeads}
+use Rattle.groups.specs.Directory.{Entries}
+use Rattle.std.proofs.lemmas.Option.{slice_get-map}
+use Rattle.shard.proofs.NotedGuests.{KnowsNoHeads-fewer}
 use Rattle.shard.proofs.KnownHeads.{KnowsHeads-same}
 use Rattle.shard.specs.Group.{GroupState, HasNoRoomIn}
 use Rattle.shard.specs.Moves.{HasGuestRoom}
@@ -50,6 +53,11 @@ pub KnowsHeads-without_dead : (number : ℕ) (groups : List GroupState) (window 
 KnowsHeads-without_dead number groups window knows = KnowsHeads-same number groups window knows (map_list without_dead groups) (λ index group there.
     let before = before-map without_dead groups index group there in
     (before.0, before.1, heads group before.0 before.2))
+
+pub KnowsNoHeads-without_dead : (number : ℕ) (groups : List GroupState) (entries : Entries) (window : HeadWindow) → KnowsNoHeads number groups entries window
+    → KnowsNoHeads number (map_list without_dead groups) entries window
+KnowsNoHeads-without_dead number groups entries window knows = KnowsNoHeads-fewer number groups entries window knows (map_list without_dead groups) (λ index group there.
+    (index, without_dead group, slice_get-map without_dead groups index ∙ ap (option_map without_dead) there, refl))
 
 pub IsSound-without_dead : (old : ShardState) → IsSound old → IsSound (record old { groups = map_list without_dead old.groups })
 IsSound-without_dead old sound = record {

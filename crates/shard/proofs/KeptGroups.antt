@@ -1,5 +1,5 @@
 -- What a shard keeps beside its groups, where one of them is replaced, or none.
-use Rattle.std.proofs.Common.{◌≡◌, ◌+◌, ◌<◌, ◌≤◌, ℕ, List, length, length-set, min, Some, set, slice_get, ◌∙◌, ap, arith, rules}
+use Rattle.std.proofs.Common.{◌≡◌, ◌+◌, ◌<◌, ◌≤◌, ℕ, List, length, length-set, Some, set, slice_get, ◌∙◌, ap, arith, rules}
 use Rattle.std.specs.Prelude.{map as map_list, vec_capacity, vec_len}
 use Rattle.std.proofs.lemmas.List.{length-map}
 use Rattle.std.specs.Global.{Vec}
@@ -10,8 +10,7 @@ use Rattle.groups.proofs.KnownGuests.{KnowsGuests-replaced}
 use Rattle.groups.proofs.ReplacedGroups.{AreAlike, head-alike}
 use Rattle.groups.specs.Directory.{DirectoryState}
 use Rattle.shard.specs.Group.{GroupState}
-use Rattle.shard.specs.GuestNotes.{AreNoted}
-use Rattle.shard.specs.HeadWindow.{HeadWindow, end_of, entry_of}
+use Rattle.shard.specs.HeadWindow.{HeadWindow, end_of, note_in}
 use Rattle.shard.specs.Kept.{IsKept, state_of}
 use Rattle.shard.specs.Least.{KnowsLeast}
 use Rattle.shard.specs.Row.{RowState}
@@ -22,7 +21,8 @@ use Rattle.shard.proofs.AlikeGroups.{HasGuestRoom-alike, IsSound-alike, alike, b
 use Rattle.shard.proofs.ClassesHere.{HaveRoom-map, HaveRoom-same, HaveRoom-set}
 use Rattle.shard.proofs.GuestRoom.{HasGuestRoom-replaced}
 use Rattle.shard.proofs.KnownGuests.{KnowsGuests-alike}
-use Rattle.shard.proofs.KnownHeads.{KnowsHeads-alike, KnowsHeads-moved, KnowsHeads-set}
+use Rattle.shard.proofs.KnownHeads.{KnowsHeads-alike, KnowsHeads-more, KnowsHeads-set}
+use Rattle.shard.proofs.NotedGuests.{KnowsNoHeads-alike, KnowsNoHeads-more, KnowsNoHeads-set}
 
 module _ {L : Type 0} (s : Inside L) (kept : IsKept s) (groups : RowState) (rooms : List NumbersState) where
   abbrev after : Inside L
@@ -48,7 +48,8 @@ module _ {L : Type 0} (s : Inside L) (kept : IsKept s) (groups : RowState) (room
     room_for_entries = kept.room_for_entries;
     heads_known = rw same kept.heads_known;
     room_for_heads = kept.room_for_heads;
-    guests_noted = kept.guests_noted;
+    others_known = rw same kept.others_known;
+    room_for_notes = kept.room_for_notes;
     least_known = rw same kept.least_known;
     room_for_bytes = omega (arith, kept.room_for_bytes, ap length same);
   }
@@ -77,7 +78,8 @@ module _ {L : Type 0} (s : Inside L) (kept : IsKept s) (groups : RowState) (room
     room_for_entries = kept.room_for_entries;
     heads_known = rw same (KnowsHeads-set s.number s.groups.items s.heads kept.heads_known index group now here (head-alike group now ids));
     room_for_heads = kept.room_for_heads;
-    guests_noted = kept.guests_noted;
+    others_known = rw same (KnowsNoHeads-set s.number s.groups.items s.directory.entries s.heads kept.others_known index group now here (head-alike group now ids));
+    room_for_notes = kept.room_for_notes;
     least_known = rw same known;
     room_for_bytes = omega (arith, kept.room_for_bytes, bytes, ap length same ∙ length-set s.groups.items index now);
   }
@@ -105,7 +107,8 @@ module _ {L : Type 0} (s : Inside L) (kept : IsKept s) (groups : RowState) (room
         room_for_entries = kept.room_for_entries;
         heads_known = KnowsHeads-alike s.number s.groups.items groups.items s.heads same kept.heads_known;
         room_for_heads = kept.room_for_heads;
-        guests_noted = kept.guests_noted;
+        others_known = KnowsNoHeads-alike s.number s.groups.items s.directory.entries s.heads kept.others_known groups.items same;
+        room_for_notes = kept.room_for_notes;
         least_known = known;
         room_for_bytes = omega (arith, kept.room_for_bytes, bytes, many);
       }
@@ -114,13 +117,31 @@ module _ {L : Type 0} (s : Inside L) (kept : IsKept s) (groups : RowState) (room
 pub IsKept-bytes : {L : Type 0} (s : Inside L) → IsKept s → (least : Vec ℕ) → vec_len s.least ≤ vec_len least → KnowsLeast s.groups.items least.items → IsKept (record s { least = least })
 IsKept-bytes s kept least bytes known = search (rules)
 
--- more indexes of heads are noted
-pub IsKept-more_heads : {L : Type 0} (s : Inside L) → IsKept s → (count : ℕ) → s.opened ≤ count → (heads : HeadWindow) → s.heads.base ≤ heads.base
-    → ((serial index : ℕ) → heads.base ≤ serial → serial < count → entry_of s.heads serial ≡ Some index → entry_of heads serial ≡ Some index)
-    → min count (end_of s.heads) ≤ end_of heads → IsKept (record s { heads = heads })
-IsKept-more_heads s kept count enough heads base same more = search (rules, KnowsHeads-moved)
+-- there are more notes
+pub IsKept-more_heads : {L : Type 0} (s : Inside L) → IsKept s → (heads : HeadWindow) → s.heads.base ≤ heads.base
+    → ((serial : ℕ) → heads.base ≤ serial → note_in heads serial ≡ note_in s.heads serial) → end_of s.heads ≤ end_of heads → IsKept (record s { heads = heads })
+IsKept-more_heads s kept heads base same more = record {
+  number_fits = kept.number_fits;
+  pages_fit = kept.pages_fit;
+  gens_fit = kept.gens_fit;
+  sound = kept.sound;
+  rooms = kept.rooms;
+  room_for_groups = kept.room_for_groups;
+  room_for_rooms = kept.room_for_rooms;
+  room_for_class = kept.room_for_class;
+  no_guests = kept.no_guests;
+  room_for_guests = kept.room_for_guests;
+  guests_known = kept.guests_known;
+  room_for_entries = kept.room_for_entries;
+  heads_known = KnowsHeads-more s.number s.groups.items s.heads kept.heads_known heads base same more;
+  room_for_heads = λ some. let enough = kept.room_for_heads some in omega (arith, enough, more);
+  others_known = KnowsNoHeads-more s.number s.groups.items s.directory.entries s.heads kept.others_known heads base same;
+  room_for_notes = λ head named. let enough = kept.room_for_notes head named in omega (arith, enough, more);
+  least_known = kept.least_known;
+  room_for_bytes = kept.room_for_bytes;
+}
 
--- the directory has the same entries and more room, and of the same guests more is noted
-pub IsKept-noted : {L : Type 0} (s : Inside L) → IsKept s → (directory : DirectoryState) (notes : HeadWindow) → directory.entries ≡ s.directory.entries
-    → s.directory.room ≤ directory.room → AreNoted s.number s.directory.entries notes s.opened s.group_room s.onto → IsKept (record s { directory = directory; notes = notes })
-IsKept-noted s kept directory notes same room noted = search (rules)
+-- the directory has the same entries and more room
+pub IsKept-room : {L : Type 0} (s : Inside L) → IsKept s → (directory : DirectoryState) → directory.entries ≡ s.directory.entries
+    → s.directory.room ≤ directory.room → IsKept (record s { directory = directory })
+IsKept-room s kept directory same room = search (rules)

@@ -16,13 +16,14 @@ use Rattle.groups.proofs.Lists.{cases-insert, cases-set, get-insert, same_some}
 use Rattle.groups.proofs.Removed.{cases-remove}
 use Rattle.shard.specs.Group.{GroupState}
 use Rattle.shard.specs.Heads.{AreReady, FitHeads, IsNoted, KnowsBelow, KnowsHeads, KnowsOthers, lowered, raised}
-use Rattle.shard.specs.declared.head_indexes.TheConstants.{FAR}
-use Rattle.shard.specs.HeadWindow.{HeadWindow, end_of, entry_of}
+use Rattle.shard.specs.declared.head_indexes.TheConstants.{AWAY}
+use Rattle.shard.specs.HeadWindow.{HeadWindow, end_of, entry_of, note_in}
 use Rattle.shard.specs.Leaving.{has_stayed}
 use Rattle.shard.specs.Sound.{IsSound}
 use Rattle.shard.specs.State.{ShardState}
 use Rattle.shard.proofs.AlikeGroups.{alike, bare}
 use Rattle.shard.proofs.Left.{length-stayed}
+use Rattle.shard.proofs.NotedGuests.{entry-kept, note_in-changed}
 use Rattle.shard.proofs.Sparse.{before-filter, pairs-filter}
 
 pub KnowsHeads-none : (number : ℕ) (groups : List GroupState) (window : HeadWindow) → groups ≡ [] → KnowsHeads number groups window
@@ -40,14 +41,12 @@ module _ (number : ℕ) (groups : List GroupState) (window : HeadWindow) (knows 
   pub KnowsHeads-set : (index : ℕ) (before after : GroupState) → slice_get groups index ≡ Some before → after.head.id ≡ before.head.id → KnowsHeads number (set groups index after) window
   KnowsHeads-set index before after here same = search (rules, KnowsHeads-same, cases-set)
 
-  -- more window
-  pub KnowsHeads-more : (opened : ℕ) → ((index : ℕ) (group : GroupState) → slice_get groups index ≡ Some group → group.head.id.shard ≡ number → group.head.id.serial < opened)
-      → (more : HeadWindow) → window.base ≤ more.base
-      → ((serial index : ℕ) → more.base ≤ serial → serial < opened → entry_of window serial ≡ Some index → entry_of more serial ≡ Some index)
-      → KnowsHeads number groups more
-  KnowsHeads-more opened low more base same index group there own =
-      let within = own.1 in
-      same group.head.id.serial index own.1 (low index group there own.0) (knows index group there (own.0, omega (arith, within, base)))
+  -- the base has risen, or there are more entries
+  pub KnowsHeads-more : (now : HeadWindow) → window.base ≤ now.base → ((serial : ℕ) → now.base ≤ serial → note_in now serial ≡ note_in window serial) → end_of window ≤ end_of now
+      → KnowsHeads number groups now
+  KnowsHeads-more now base same end index group there own =
+      let low = own.1 in
+      entry-kept window now base same end group.head.id.serial index low (knows index group there (own.0, omega (arith, low, base)))
 
   FitHeads-known : (index : ℕ) (group : GroupState) → slice_get groups index ≡ Some group → IsNoted number window.base group.head.id → group.head.id.serial < end_of window
   FitHeads-known index group there own = search (rules, slice_get_within)
@@ -71,20 +70,20 @@ KnowsHeads-written number groups window now base id none others knows index grou
 raised-below : (from entry : ℕ) → entry < from → raised from entry ≡ entry
 raised-below from entry less = rw (lt-leb from entry less) refl
 
-raised-from : (from entry : ℕ) → from ≤ entry → entry < FAR → raised from entry ≡ entry + 1
-raised-from from entry high near = rw (le-leb from entry high, lt-ltb entry FAR near) refl
+raised-from : (from entry : ℕ) → from ≤ entry → entry < AWAY → raised from entry ≡ entry + 1
+raised-from from entry high near = rw (le-leb from entry high, lt-ltb entry AWAY near) refl
 
-raised-far : (from entry : ℕ) → FAR ≤ entry → raised from entry ≡ entry
-raised-far from entry far = rw (le-ltb entry FAR far, and-false (nat_le from entry)) refl
+raised-far : (from entry : ℕ) → AWAY ≤ entry → raised from entry ≡ entry
+raised-far from entry far = rw (le-ltb entry AWAY far, and-false (nat_le from entry)) refl
 
 lowered-within : (at entry : ℕ) → entry ≤ at → lowered at entry ≡ entry
 lowered-within at entry low = rw (le-ltb at entry low) refl
 
-lowered-behind : (at entry : ℕ) → at < entry → entry < FAR → lowered at entry ≡ entry - 1
-lowered-behind at entry high near = rw (lt-ltb at entry high, lt-ltb entry FAR near) refl
+lowered-behind : (at entry : ℕ) → at < entry → entry < AWAY → lowered at entry ≡ entry - 1
+lowered-behind at entry high near = rw (lt-ltb at entry high, lt-ltb entry AWAY near) refl
 
-lowered-far : (at entry : ℕ) → FAR ≤ entry → lowered at entry ≡ entry
-lowered-far at entry far = rw (le-ltb entry FAR far, and-false (nat_lt at entry)) refl
+lowered-far : (at entry : ℕ) → AWAY ≤ entry → lowered at entry ≡ entry
+lowered-far at entry far = rw (le-ltb entry AWAY far, and-false (nat_lt at entry)) refl
 
 -- the entry of a serial where all are changed alike
 module _ (window now : HeadWindow) (base : now.base ≡ window.base) (change : ℕ → ℕ) (all : now.entries ≡ map_list change window.entries) where
@@ -97,13 +96,15 @@ module _ (window now : HeadWindow) (base : now.base ≡ window.base) (change : �
       ∙ slice_get-map change window.entries (serial - window.base) ∙ ap (option_map change) was ∙ ap Some is
 
 -- what guests have is no index, and so it stays
-pub guests-raised : (window now : HeadWindow) → now.base ≡ window.base → (from : ℕ) → now.entries ≡ map_list (raised from) window.entries → (serial note : ℕ) → FAR ≤ note
-    → entry_of window serial ≡ Some note → entry_of now serial ≡ Some note
-guests-raised window now base from all serial note far was = entry_of-changed window now base (raised from) all serial note note was (raised-far from note far)
+pub guests-raised : (window now : HeadWindow) → now.base ≡ window.base → (from : ℕ) → now.entries ≡ map_list (raised from) window.entries → (serial : ℕ) → AWAY ≤ note_in window serial
+    → note_in now serial ≡ note_in window serial
+guests-raised window now base from all serial far =
+    note_in-changed window now base (raised from) all (raised-far from AWAY (omega arith)) serial ∙ raised-far from (note_in window serial) far
 
-pub guests-lowered : (window now : HeadWindow) → now.base ≡ window.base → (at : ℕ) → now.entries ≡ map_list (lowered at) window.entries → (serial note : ℕ) → FAR ≤ note
-    → entry_of window serial ≡ Some note → entry_of now serial ≡ Some note
-guests-lowered window now base at all serial note far was = entry_of-changed window now base (lowered at) all serial note note was (lowered-far at note far)
+pub guests-lowered : (window now : HeadWindow) → now.base ≡ window.base → (at : ℕ) → now.entries ≡ map_list (lowered at) window.entries → (serial : ℕ) → AWAY ≤ note_in window serial
+    → note_in now serial ≡ note_in window serial
+guests-lowered window now base at all serial far =
+    note_in-changed window now base (lowered at) all (lowered-far at AWAY (omega arith)) serial ∙ lowered-far at (note_in window serial) far
 
 module _ (number : ℕ) (groups : List GroupState) (window : HeadWindow) (knows : KnowsHeads number groups window) where
   -- a group comes behind all others
@@ -186,21 +187,16 @@ KnowsHeads-alike number groups after window same knows = KnowsHeads-same number 
 pub FitHeads-sound : (shard : ShardState) → IsSound shard → (window : HeadWindow) → shard.opened ≤ end_of window → FitHeads shard.number shard.groups window
 FitHeads-sound shard sound window few index group there own = let low = sound.serials index 0 group group.head (there, refl) own.0 in omega (arith, low, few)
 
--- and so the heads are known where the base has risen, and more are noted
-pub KnowsHeads-moved : (shard : ShardState) → IsSound shard → (window : HeadWindow) → KnowsHeads shard.number shard.groups window → (count : ℕ) → shard.opened ≤ count
-    → (more : HeadWindow) → window.base ≤ more.base
-    → ((serial index : ℕ) → more.base ≤ serial → serial < count → entry_of window serial ≡ Some index → entry_of more serial ≡ Some index)
-    → KnowsHeads shard.number shard.groups more
-KnowsHeads-moved shard sound window knows count enough more base same = KnowsHeads-more shard.number shard.groups window knows count
-    (λ index group there own. let low = sound.serials index 0 group group.head (there, refl) own in omega (arith, low, enough)) more base same
-
 -- what is noted where groups have left
 module _ (shard : ShardState) (sound : IsSound shard) (window : HeadWindow) (knows : KnowsHeads shard.number shard.groups window) (pages : shard.page_limit ≤ MOST_PAGES) where
-  pub AreReady-swept : AreReady shard.number (filter has_stayed shard.groups) window 0
-  AreReady-swept = record {
+  pub AreReady-swept : (now : HeadWindow) → now.base ≡ window.base → end_of now ≡ end_of window → AreReady shard.number (filter has_stayed shard.groups) now 0
+  AreReady-swept now base end = record {
     ascend = pairs-filter (λ (a b : GroupState). rank a.head.id < rank b.head.id) has_stayed shard.groups sound.ascending;
     few = let few = length-stayed shard.groups in let limit = sound.limit in omega (arith, few, limit, pages);
-    fit = FitHeads-some shard.number shard.groups window knows (filter has_stayed shard.groups) (λ q g there. let was = before-filter has_stayed shard.groups q g there in (was.0, was.1));
+    fit = λ q g there own.
+        let low = FitHeads-some shard.number shard.groups window knows (filter has_stayed shard.groups)
+        (λ i x at. let was = before-filter has_stayed shard.groups i x at in (was.0, was.1)) q g there (subst (λ b. IsNoted shard.number b g.head.id) base own) in
+        omega (arith, low, end);
     below = λ q g low. absurd (omega (arith, low));
   }
 

@@ -1,13 +1,16 @@
--- Where the heads that a shard opened stand. No public clause cites this module.
-use Rattle.std.specs.Prelude.{◌≡◌, ℕ, ◌+◌, ◌-◌, ◌*◌, ◌%◌, ◌<◌, ◌≤◌, ◌==◌, ◌&&◌, List, Some, if◌then◌else◌, insert, length, nat_le, nat_lt, slice_get}
+-- Where the spans that a shard opened are. No public clause cites this module.
+use Rattle.std.specs.Prelude.{◌≡◌, ℕ, ◌+◌, ◌-◌, ◌*◌, ◌%◌, ◌<◌, ◌≤◌, ◌==◌, ◌&&◌, List, None, Option, Some, if◌then◌else◌, insert, length, nat_le, nat_lt, slice_get}
+use Rattle.std.specs.FinMap as finite
+use Rattle.groups.specs.Directory.{Entries}
 use Rattle.groups.specs.Group.{Ascend, HasNoHead}
 use Rattle.groups.specs.declared.directory.Place.{Place}
+use Rattle.span.specs.Ids.{rank}
 use Rattle.span.specs.State.{SpanState}
 use Rattle.span.specs.declared.id.SpanId.{SpanId}
 use Rattle.span.specs.declared.limits.TheConstants.{MOST_PAGES}
-use Rattle.shard.specs.declared.head_indexes.TheConstants.{FAR, HEADS, PLACES}
+use Rattle.shard.specs.declared.head_indexes.TheConstants.{AWAY, FAR, HEADS, PLACES}
 use Rattle.shard.specs.Group.{GroupState}
-use Rattle.shard.specs.HeadWindow.{HeadWindow, end_of, entry_of}
+use Rattle.shard.specs.HeadWindow.{HeadWindow, end_of, entry_of, note_in}
 
 -- the span was opened by the shard of this number, and is not below the base of its window
 abbrev pub IsNoted : ℕ → ℕ → SpanId → Type 0
@@ -37,11 +40,11 @@ KnowsOthers number groups window place = (index : ℕ) (group : GroupState) → 
 
 -- the entry, one higher if it is the index of a group from this one on
 abbrev pub raised : (from entry : ℕ) → ℕ
-raised from entry = if nat_le from entry && nat_lt entry FAR then entry + 1 else entry
+raised from entry = if nat_le from entry && nat_lt entry AWAY then entry + 1 else entry
 
 -- the entry, one lower if it is the index of a group behind this one
 abbrev pub lowered : (at entry : ℕ) → ℕ
-lowered at entry = if nat_lt at entry && nat_lt entry FAR then entry - 1 else entry
+lowered at entry = if nat_lt at entry && nat_lt entry AWAY then entry - 1 else entry
 
 -- the serial of each such head is below the end of the window
 abbrev pub FitHeads : ℕ → List GroupState → HeadWindow → Type 0
@@ -61,13 +64,36 @@ pub record AreReady (number : ℕ) (groups : List GroupState) (window : HeadWind
 -- the entry of a guest: its place and the lowest bits of its head's serial; if another shard opened
 -- its head, or its place is far behind, an index past all groups
 abbrev pub note_at : ℕ → Place → ℕ
-note_at number at = if (at.head.shard == number) && nat_lt at.place PLACES then at.place * HEADS
-    + at.head.serial % HEADS else FAR
+note_at number at = if (at.head.shard == number) && nat_lt 0 at.place && nat_lt at.place PLACES
+    then at.place * HEADS + at.head.serial % HEADS else FAR
 
--- behind the place no span has the id, among the first so many
-abbrev pub IsLastOf : List SpanState → (place below : ℕ) → SpanId → Type 0
-IsLastOf spans place below id = (later : ℕ) (span : SpanState) → place < later → later < below
-    → slice_get spans later ≡ Some span → span.id ≡ id → ⊥
+-- what is noted of a span that is no head, by its entry in the directory: without one it is away
+abbrev pub note_for : ℕ → Option Place → ℕ
+note_for number None = AWAY
+note_for number (Some at) = note_at number at
+
+-- of each span that the shard of this number opened, from the base on, and that is no head, it is
+-- noted where the directory says that it is
+abbrev pub KnowsNoHeads : ℕ → List GroupState → Entries → HeadWindow → Type 0
+KnowsNoHeads number groups entries window = (id : SpanId) → IsNoted number window.base id
+    → HasNoHead groups id
+    → note_in window id.serial ≡ note_for number (finite.get entries (rank id))
+
+-- notes of spans that are no heads follow a change of the directory
+abbrev pub NotesFollow : ℕ → (old new : HeadWindow) → (Entries → Entries) → Type 0
+NotesFollow number old new change = (groups : List GroupState) (entries : Entries)
+    → KnowsNoHeads number groups entries old → KnowsNoHeads number groups (change entries) new
+
+-- there is an entry for each of the guests from the place on that the shard of this number opened
+abbrev pub HasNotesFor : ℕ → HeadWindow → ℕ → List SpanState → Type 0
+HasNotesFor number window first guests = (place : ℕ) (guest : SpanState)
+    → slice_get guests place ≡ Some guest → first ≤ place → IsNoted number window.base guest.id
+    → guest.id.serial < end_of window
+
+-- the directory has no entry of a head
+abbrev pub HasNoHeadsOf : Entries → List GroupState → Type 0
+HasNoHeadsOf entries groups = (index : ℕ) (group : GroupState)
+    → slice_get groups index ≡ Some group → finite.get entries (rank group.head.id) ≡ None
 
 -- what is found is the index that is noted for the serial with the lowest bits of the note, of the
 -- first serials from the base on, if one is noted
@@ -75,15 +101,6 @@ abbrev pub LeadsTo : HeadWindow → (note found : ℕ) → Type 0
 LeadsTo window note found = (serial index : ℕ) → window.base ≤ serial
     → serial < window.base + HEADS → serial % HEADS ≡ note % HEADS
     → entry_of window serial ≡ Some index → found ≡ index
-
--- each guest of the head from the place on that has an entry, and stands at no later place, has the
--- entry of its place now
-abbrev pub AreEnteredFrom : ℕ → ℕ → List SpanState → SpanId → (old new : HeadWindow) → Type 0
-AreEnteredFrom number first guests head old new = (place : ℕ) (guest : SpanState)
-    → slice_get guests place ≡ Some guest → first ≤ place → IsNoted number old.base guest.id
-    → guest.id.serial < end_of old → IsLastOf guests place (length guests) guest.id
-    → entry_of new guest.id.serial
-    ≡ Some (note_at number (record { head = head; place = place + 1 }))
 
 -- heads that were noted are noted after a group came to the index, of so many groups then, but for
 -- the head of that group

@@ -1,9 +1,13 @@
 // Where the heads that a shard opened stand, and the ways to its guests.
-ghost use Rattle.std.specs.Prelude.{◌≡◌, ◌+◌, ◌-◌, ◌%◌, ◌<◌, ◌≤◌, ℕ, List, OnOk, Some, false, length, map, min, remove, slice_get, true};
-ghost use Rattle.groups.specs.Group.{AreNoHeadsFrom};
+ghost use Rattle.std.specs.Prelude.{[], ◌≡◌, ◌+◌, ◌-◌, ◌%◌, ◌<◌, ◌≤◌, ℕ, List, OnOk, Some, drop, false, get_or, length, map, remove, slice_get, true};
+ghost use Rattle.std.specs.FinMap as finite;
+ghost use Rattle.groups.specs.Dead.{dead_among, is_live};
+ghost use Rattle.groups.specs.Directory.{Entries, entered, struck};
+ghost use Rattle.groups.specs.Group.{AreNoHeadsFrom, HasNoHead};
+ghost use Rattle.span.specs.Ids.{rank};
 ghost use Rattle.shard.specs.Group.{GroupState};
-ghost use Rattle.shard.specs.HeadWindow.{HeadWindow, KeepsEntry, end_of, entry_of, most_entries};
-ghost use Rattle.shard.specs.Heads.{AreEnteredFrom, AreReady, IsNoted, IsOther, KnowsArrival, KnowsHeads, LeadsTo, MakesPlace, lowered, note_at, raised};
+ghost use Rattle.shard.specs.HeadWindow.{HeadWindow, KeepsNote, end_of, entry_of, most_entries, note_in};
+ghost use Rattle.shard.specs.Heads.{AreReady, HasNoHeadsOf, HasNotesFor, IsNoted, IsOther, KnowsArrival, KnowsHeads, KnowsNoHeads, LeadsTo, MakesPlace, NotesFollow, lowered, note_at, raised};
 ghost use Rattle.span.specs.declared.limits.TheConstants.{MOST_PAGES};
 
 use crate::group_row::GroupRow;
@@ -20,15 +24,17 @@ pub const HEADS: u32 = 4_194_304;
 pub const PLACES: usize = 1024;
 /// The entry of a guest of which no more is noted: an index past all groups.
 pub const FAR: u32 = 4_194_303;
+/// The entry of a span that is neither a head nor a guest here. Indexes of groups are below.
+pub const AWAY: u32 = 4_194_302;
 
-/// For each of the last spans that the shard opened, the index of its group, if it is the head of
-/// one here. So a look-up of such a head takes one step, however many groups have left. It has four
-/// bytes a span. The first serial that has an entry rises as the shard opens spans, so that the
-/// memory goes with the groups that are here and not with the spans that ever were.
+/// For each of the last spans that the shard opened where it is: the index of its group, if it is
+/// the head of one here, or the way to it, if it is a guest here, or that it is neither. So a
+/// look-up takes one step, however many groups have left. It has four bytes a span. The first
+/// serial that has an entry rises as the shard opens spans, so that the memory goes with the groups
+/// that are here and not with the spans that ever were.
 ///
 /// The entry of a guest leads to its head: it is the guest's place, and the lowest bits of the
-/// serial of the head, so that no group that comes or goes changes it. A look-up tests what it
-/// finds there, since only the entries of heads are sure to hold.
+/// serial of the head, so that no group that comes or goes changes it.
 #[derive(Drop)]
 pub struct HeadIndexes {
     base: usize,
@@ -49,7 +55,7 @@ impl Model for HeadIndexes {
 impl HeadIndexes {
     /// No index. Takes no memory.
     pub fn new(alloc: Global) -> HeadIndexes
-        ensures { length result.entries ≡ 0 }
+        ensures { result.entries ≡ [] }
     {
         HeadIndexes {
             base: 0,
@@ -73,9 +79,9 @@ impl HeadIndexes {
     /// `AllocError` where memory is refused. The indexes from the base on stay.
     pub fn reserve(&mut self, count: usize, groups: usize) -> Result<(), AllocError>
         ensures base { self.old.base ≤ self.new.base }
-        ensures same { (serial index : ℕ) → self.new.base ≤ serial → serial < count
-            → KeepsEntry serial index self.old self.new }
-        ensures more { min count (end_of self.old) ≤ end_of self.new }
+        ensures same { (serial : ℕ) → self.new.base ≤ serial
+            → KeepsNote serial self.old self.new }
+        ensures more { end_of self.old ≤ end_of self.new }
         ensures few { count ≤ self.new.base + most_entries groups }
         ensures ok { OnOk result (count ≤ end_of self.new) }
     {
@@ -87,17 +93,15 @@ impl HeadIndexes {
         grow(&mut self.indexes, count.saturating_sub(self.base))
     }
 
-    // Has the base rise. The entries from there on stay, and as many as have gone are of no
-    // account.
+    // Has the base rise. The entries from there on stay.
     fn rise(&mut self, base: usize)
         requires { self.old.base ≤ base }
         ensures base { self.new.base ≡ base }
-        ensures same { (serial index : ℕ) → base ≤ serial
-            → KeepsEntry serial index self.old self.new }
-        ensures len { length self.new.entries ≡ length self.old.entries }
+        ensures same { (serial : ℕ) → base ≤ serial → KeepsNote serial self.old self.new }
+        ensures end { end_of self.old ≤ end_of self.new }
     {
         let gone = (base - self.base).min(self.indexes.len());
-        move_down(&mut self.indexes, gone);
+        drop_first(&mut self.indexes, gone);
         self.base = base;
     }
 
@@ -111,6 +115,20 @@ impl HeadIndexes {
             return None;
         }
         Some(self.indexes[at])
+    }
+
+    /// Whether it is noted of the span of the serial that it is neither a head nor a guest here.
+    #[inline(always)]
+    pub fn tells_away(&self, serial: u32) -> bool
+        ensures { result ≡ true
+            → (self.now.base ≤ serial) × (note_in self.now serial ≡ AWAY) }
+    {
+        let serial = serial as usize;
+        if serial < self.base {
+            return false;
+        }
+        let at = serial - self.base;
+        at >= self.indexes.len() || self.indexes[at] == AWAY
     }
 
     /// The index that is noted for the first serial from the base on with the lowest bits that a
@@ -132,6 +150,8 @@ impl HeadIndexes {
     pub fn note_from<L: Log>(&mut self, groups: &GroupRow<L>, from: usize, number: u32)
         requires { AreReady number groups.now.items self.old from }
         ensures known { KnowsHeads number groups.now.items self.new }
+        ensures others { (entries : Entries) → KnowsNoHeads number groups.now.items entries self.old
+            → KnowsNoHeads number groups.now.items entries self.new }
         ensures base { self.new.base ≡ self.old.base }
         ensures len { length self.new.entries ≡ length self.old.entries }
     {
@@ -145,8 +165,8 @@ impl HeadIndexes {
         requires within { index < count }
         requires few { count ≤ MOST_PAGES }
         ensures known { KnowsArrival number head index count self.old self.new }
-        ensures guests { (serial note : ℕ) → self.old.base ≤ serial → FAR ≤ note
-            → IsOther number head serial → KeepsEntry serial note self.old self.new }
+        ensures guests { (serial : ℕ) → self.old.base ≤ serial → AWAY ≤ note_in self.old serial
+            → IsOther number head serial → KeepsNote serial self.old self.new }
         ensures base { self.new.base ≡ self.old.base }
         ensures end { end_of self.new ≡ end_of self.old }
     {
@@ -160,8 +180,8 @@ impl HeadIndexes {
         requires within { index < count }
         requires few { count ≤ MOST_PAGES }
         ensures known { (number : ℕ) → MakesPlace number index count self.old self.new }
-        ensures guests { (serial note : ℕ) → FAR ≤ note
-            → KeepsEntry serial note self.old self.new }
+        ensures guests { (serial : ℕ) → AWAY ≤ note_in self.old serial
+            → KeepsNote serial self.old self.new }
         ensures base { self.new.base ≡ self.old.base }
         ensures end { end_of self.new ≡ end_of self.old }
     {
@@ -178,8 +198,8 @@ impl HeadIndexes {
         requires few { count < MOST_PAGES }
         ensures known { (number : ℕ) (groups : List GroupState) → length groups ≡ count + 1
             → KnowsHeads number groups self.old → KnowsHeads number (remove groups index) self.new }
-        ensures guests { (serial note : ℕ) → FAR ≤ note
-            → KeepsEntry serial note self.old self.new }
+        ensures guests { (serial : ℕ) → AWAY ≤ note_in self.old serial
+            → KeepsNote serial self.old self.new }
         ensures base { self.new.base ≡ self.old.base }
         ensures end { end_of self.new ≡ end_of self.old }
     {
@@ -198,7 +218,10 @@ impl HeadIndexes {
         guests: &[Span<L>],
         head: SpanId,
     )
-        ensures noted { AreEnteredFrom number first guests.now head self.old self.new }
+        requires within { first ≤ length guests.now }
+        requires room { HasNotesFor number self.old first guests.now }
+        ensures known { NotesFollow number self.old self.new (λ entries.
+            entered entries (drop first guests.now) head (first + 1)) }
         ensures heads { (groups : List GroupState) → KnowsHeads number groups self.old
             → AreNoHeadsFrom groups first guests.now → KnowsHeads number groups self.new }
         ensures base { self.new.base ≡ self.old.base }
@@ -210,13 +233,88 @@ impl HeadIndexes {
         }
     }
 
+    /// Notes that the spans, which were guests, are away. It takes no memory.
+    pub fn strike_guests<L: Log>(&mut self, number: u32, guests: &[Span<L>])
+        ensures known { NotesFollow number self.old self.new (λ entries.
+            struck entries guests.now) }
+        ensures heads { (groups : List GroupState) → KnowsHeads number groups self.old
+            → AreNoHeadsFrom groups 0 guests.now → KnowsHeads number groups self.new }
+        ensures base { self.new.base ≡ self.old.base }
+        ensures end { end_of self.new ≡ end_of self.old }
+    {
+        for place in 0..guests.len() {
+            self.note_away(number, guests[place].id());
+        }
+    }
+
+    /// Notes of those of the spans in which no slot is live that they are away. It takes no memory.
+    pub fn strike_dead_guests<L: Log>(&mut self, number: u32, guests: &[Span<L>])
+        ensures known { NotesFollow number self.old self.new (λ entries.
+            struck entries (dead_among guests.now)) }
+        ensures heads { (groups : List GroupState) → KnowsHeads number groups self.old
+            → AreNoHeadsFrom groups 0 guests.now → KnowsHeads number groups self.new }
+        ensures base { self.new.base ≡ self.old.base }
+        ensures end { end_of self.new ≡ end_of self.old }
+    {
+        for place in 0..guests.len() {
+            self.strike_if_dead(number, &guests[place]);
+        }
+    }
+
+    // Notes of the span that it is away, if no slot of it is live.
+    fn strike_if_dead<L: Log>(&mut self, number: u32, span: &Span<L>)
+        ensures dead { is_live span.now ≡ false → NotesFollow number self.old self.new (λ entries.
+            finite.remove entries (rank span.now.id)) }
+        ensures live { is_live span.now ≡ true → self.new ≡ self.old }
+        ensures heads { (groups : List GroupState) → KnowsHeads number groups self.old
+            → HasNoHead groups span.now.id → KnowsHeads number groups self.new }
+        ensures base { self.new.base ≡ self.old.base }
+        ensures end { end_of self.new ≡ end_of self.old }
+    {
+        if is_live(span) {
+            return;
+        }
+        self.note_away(number, span.id());
+    }
+
+    /// Notes that the heads of all groups are away. It takes no memory.
+    pub fn strike_heads<L: Log>(&mut self, number: u32, groups: &GroupRow<L>)
+        ensures known { (entries : Entries) → HasNoHeadsOf entries groups.now.items
+            → KnowsNoHeads number groups.now.items entries self.old
+            → KnowsNoHeads number [] entries self.new }
+        ensures base { self.new.base ≡ self.old.base }
+        ensures end { end_of self.new ≡ end_of self.old }
+    {
+        for index in 0..groups.len() {
+            self.note_away(number, groups[index].head_id());
+        }
+    }
+
+    /// Notes that the span is neither a head nor a guest here. It takes no memory.
+    pub fn note_away(&mut self, number: u32, id: SpanId)
+        ensures base { self.new.base ≡ self.old.base }
+        ensures end { end_of self.new ≡ end_of self.old }
+        ensures this { IsNoted number self.old.base id → note_in self.new id.serial ≡ AWAY }
+        ensures others { (serial : ℕ) → self.old.base ≤ serial → IsOther number id serial
+            → KeepsNote serial self.old self.new }
+        ensures entries { (serial : ℕ) → self.old.base ≤ serial → IsOther number id serial
+            → entry_of self.new serial ≡ entry_of self.old serial }
+    {
+        self.write(number, id, AWAY);
+    }
+
     // Notes this of the span, if the shard of this number opened it and it has an entry.
     fn write(&mut self, number: u32, id: SpanId, note: u32)
         ensures base { self.new.base ≡ self.old.base }
         ensures end { end_of self.new ≡ end_of self.old }
         ensures this { IsNoted number self.old.base id → id.serial < end_of self.old
+            → note_in self.new id.serial ≡ note }
+        ensures entry { IsNoted number self.old.base id → id.serial < end_of self.old
             → entry_of self.new id.serial ≡ Some note }
+        ensures past { end_of self.old ≤ id.serial → self.new ≡ self.old }
         ensures others { (serial : ℕ) → self.old.base ≤ serial → IsOther number id serial
+            → KeepsNote serial self.old self.new }
+        ensures entries { (serial : ℕ) → self.old.base ≤ serial → IsOther number id serial
             → entry_of self.new serial ≡ entry_of self.old serial }
     {
         if !is_noted(number, self.base, id) {
@@ -229,11 +327,18 @@ impl HeadIndexes {
     }
 }
 
+// Whether one of its slots is live.
+fn is_live<L: Log>(span: &Span<L>) -> bool
+    ensures { result ≡ is_live span.now }
+{
+    span.live_count() > 0
+}
+
 // The entry of the guest of the head at the place.
 fn note_at(number: u32, head: SpanId, place: usize) -> u32
     ensures { result ≡ note_at number (record { head = head; place = place }) }
 {
-    if head.shard == number && place < PLACES {
+    if head.shard == number && 0 < place && place < PLACES {
         place as u32 * HEADS + head.serial % HEADS
     } else {
         FAR
@@ -255,17 +360,18 @@ pub fn most_entries(groups: usize) -> usize
     ensures least { FEWEST ≤ result }
     ensures most { result ≤ most_entries groups }
 {
-    FEWEST.max(groups.saturating_mul(4))
+    FEWEST.max(groups.saturating_mul(16))
 }
 
-// Has the entries from that one on move to the front. As many as have gone are of no account.
-fn move_down(indexes: &mut Vec<u32>, gone: usize)
+// Drops so many entries at the front.
+fn drop_first(indexes: &mut Vec<u32>, gone: usize)
     requires { gone ≤ length indexes.old.items }
-    ensures same { (at index : ℕ) → gone ≤ at → slice_get indexes.old.items at ≡ Some index
-        → slice_get indexes.new.items (at - gone) ≡ Some index }
-    ensures len { length indexes.new.items ≡ length indexes.old.items }
+    ensures same { (at : ℕ) → get_or indexes.new.items at AWAY
+        ≡ get_or indexes.old.items (gone + at) AWAY }
+    ensures len { length indexes.new.items + gone ≡ length indexes.old.items }
 {
     indexes.copy_within(gone.., 0);
+    indexes.truncate(indexes.len() - gone);
 }
 
 // Makes each entry that is an index from this one on one higher. No group is read, and what guests
@@ -290,7 +396,7 @@ fn raise_each(entries: &mut [u32], from: u32)
 fn raised(from: u32, entry: u32) -> u32
     ensures { result ≡ raised from entry }
 {
-    if from <= entry && entry < FAR {
+    if from <= entry && entry < AWAY {
         entry + 1
     } else {
         entry
@@ -318,36 +424,33 @@ fn lower_each(entries: &mut [u32], at: u32)
 fn lowered(at: u32, entry: u32) -> u32
     ensures { result ≡ lowered at entry }
 {
-    if at < entry && entry < FAR {
+    if at < entry && entry < AWAY {
         entry - 1
     } else {
         entry
     }
 }
 
-// Gives room back where half of it is enough for that many entries, and keeps no more of them.
+// Gives room back where half of it is enough for that many entries.
 fn give_back(indexes: &mut Vec<u32>, most: usize)
-    ensures same { (at index : ℕ) → at < most → slice_get indexes.old.items at ≡ Some index
-        → slice_get indexes.new.items at ≡ Some index }
-    ensures len { min most (length indexes.old.items) ≤ length indexes.new.items }
+    ensures { indexes.new.items ≡ indexes.old.items }
 {
     if indexes.capacity() / 2 > most {
-        indexes.truncate(most);
         indexes.shrink_to(most);
     }
 }
 
-// Makes room for that many entries, where there is less.
+// Makes room for that many entries, where there is less: their spans are away.
 fn grow(indexes: &mut Vec<u32>, count: usize) -> Result<(), AllocError>
-    ensures same { (at index : ℕ) → slice_get indexes.old.items at ≡ Some index
-        → slice_get indexes.new.items at ≡ Some index }
+    ensures same { (at : ℕ) → get_or indexes.new.items at AWAY
+        ≡ get_or indexes.old.items at AWAY }
     ensures more { length indexes.old.items ≤ length indexes.new.items }
     ensures ok { OnOk result (count ≤ length indexes.new.items) }
 {
     if count <= indexes.len() {
         return Ok(());
     }
-    indexes.resize(count, 0)
+    indexes.resize(count, AWAY)
 }
 
 // Notes where the heads of the shard of this number stand from the index on.
@@ -361,6 +464,10 @@ fn note_heads<L: Log>(
     requires { AreReady number groups.now.items
         (record { base = base; entries = indexes.old.items }) from }
     ensures known { KnowsHeads number groups.now.items
+        (record { base = base; entries = indexes.new.items }) }
+    ensures others { (entries : Entries) → KnowsNoHeads number groups.now.items entries
+        (record { base = base; entries = indexes.old.items })
+        → KnowsNoHeads number groups.now.items entries
         (record { base = base; entries = indexes.new.items }) }
     ensures len { length indexes.new.items ≡ length indexes.old.items }
 {

@@ -13,7 +13,6 @@ ghost use Rattle.span.specs.declared.limits.TheConstants.{MOST_PAGES, MOST_SHARD
 use crate::class_rooms::ClassRooms;
 use crate::error::Config;
 use crate::group_row::GroupRow;
-use crate::guest_notes::GuestNotes;
 use crate::head_indexes::HeadIndexes;
 use bitmap::SLOTS;
 use groups::Directory;
@@ -64,8 +63,7 @@ pub enum Freed {
 ///
 /// It keeps that it is sound, that a word whose number is not in `rooms` has no usable slot, and
 /// that a group of which the set of a class has a number is of that class. `heads` says of the last
-/// heads that it opened at which index they stand, and `notes` of the last spans that it opened
-/// whether they are guests here.
+/// spans that it opened where they are.
 #[derive(Drop)]
 pub struct Shard<L: Log = Kept> {
     alloc: Global,
@@ -80,7 +78,6 @@ pub struct Shard<L: Log = Kept> {
     groups: GroupRow<L>,
     rooms: ClassRooms,
     heads: HeadIndexes,
-    notes: GuestNotes,
     directory: Directory,
     // For how many more groups of its own room is reserved, and for how many more spans.
     group_room: usize,
@@ -187,7 +184,6 @@ impl<L: Log> Shard<L> {
             span_room: 0,
             onto: None,
             guest_room: Vec::new(alloc),
-            notes: GuestNotes::new(alloc),
             least: Vec::new(alloc),
         })
     }

@@ -67,15 +67,15 @@ impl<L: Log> Core<L> {
         };
         match shard.get_first(key) {
             Some(found) => words_of(found),
-            None => some_words(self.get_noted(shard, key.span, key.slot, key.generation)),
+            None => some_words(self.get_other(shard, key.span, key.slot, key.generation)),
         }
     }
 
     // The words of the key's object, if it is live, else no word. The shard opened the span of
-    // the key, and a note of it is asked. Like the calls below it is not inlined, and parts of a
-    // key and words go in registers, so that a look-up which needs none of them saves nothing.
+    // the key, and does not note it as a head. Like the calls below it is not inlined, and parts of
+    // a key and words go in registers, so that a look-up which needs none of them saves nothing.
     #[inline(never)]
-    fn get_noted<'a>(
+    fn get_other<'a>(
         &'a self,
         shard: &'a Shard<L>,
         span: SpanId,
@@ -93,53 +93,9 @@ impl<L: Log> Core<L> {
             slot,
             generation,
         };
-        match shard.get_noted(&key) {
-            Some(found) => words_in(found),
-            None => self.get_guest(shard, span, slot, generation),
+        if let Some(found) = shard.get_guest(&key) {
+            return words_in(found);
         }
-    }
-
-    // The same, if no note says that the span is a head in the shard.
-    #[inline(never)]
-    fn get_guest<'a>(
-        &'a self,
-        shard: &'a Shard<L>,
-        span: SpanId,
-        slot: u8,
-        generation: u32,
-    ) -> &'a [u128]
-        requires here { slice_get self.now.shards span.shard ≡ Some shard.now }
-        requires generation { 1 ≤ generation }
-        ensures { FindsWords self.now span slot generation result.now }
-    {
-        // For the prover: the core is sound.
-        let _ = &self.shards;
-        let key = Key {
-            span,
-            slot,
-            generation,
-        };
-        match shard.get_guest(&key) {
-            Some(found) => words_in(found),
-            None => self.get_unnoted(shard, span, slot, generation),
-        }
-    }
-
-    // The same, if no note led to the span.
-    #[inline(never)]
-    fn get_unnoted<'a>(
-        &'a self,
-        shard: &'a Shard<L>,
-        span: SpanId,
-        slot: u8,
-        generation: u32,
-    ) -> &'a [u128]
-        requires here { slice_get self.now.shards span.shard ≡ Some shard.now }
-        requires generation { 1 ≤ generation }
-        ensures { FindsWords self.now span slot generation result.now }
-    {
-        // For the prover: the core is sound.
-        let _ = &self.shards;
         if shard.is_away(span) {
             self.get_away(span, slot, generation)
         } else {
@@ -147,7 +103,7 @@ impl<L: Log> Core<L> {
         }
     }
 
-    // The same, if no note says that the span is elsewhere: the shard is searched.
+    // The same, if no note led to the span, or says that it is elsewhere: the shard is searched.
     #[inline(never)]
     fn get_searched<'a>(
         &'a self,
@@ -259,10 +215,10 @@ impl<L: Log> Core<L> {
         let Some(shard) = self.shards.get_mut(key.span.shard as usize) else {
             return self.free_parts(key.span, key.slot, key.generation);
         };
-        if !shard.stands_first(key.span) {
+        let Some(index) = shard.first_index(key.span) else {
             return self.free_parts(key.span, key.slot, key.generation);
-        }
-        was_done(shard.free_first(key))
+        };
+        was_done(shard.free_first(index, key))
     }
 
     // Frees the key of these parts, if it is live. It is not inlined, and parts of a key go in

@@ -38,10 +38,10 @@ impl<L: Log> Core<L> {
         let Some(shard) = self.shards.get_mut(key.span.shard as usize) else {
             return self.set_parts(key.span, key.slot, key.generation, words);
         };
-        if !shard.stands_first(key.span) {
+        let Some(index) = shard.first_index(key.span) else {
             return self.set_parts(key.span, key.slot, key.generation, words);
-        }
-        set_reply(shard.set_first(key, words))
+        };
+        set_reply(shard.set_first(index, key, words))
     }
 
     // Sets the key of these parts, where it may be set. It is not inlined, and parts of a key go

@@ -1,9 +1,8 @@
 // Guests that can never be live again, which a shard forgets.
 ghost use Rattle.std.specs.Prelude.{◌≡◌, ◌+◌, ◌≤◌, List, length, map as map_list};
 ghost use Rattle.span.specs.declared.key.Key.{Key};
-ghost use Rattle.shard.specs.GuestNotes.{KnowsNotes};
 ghost use Rattle.shard.specs.HeadWindow.{end_of};
-ghost use Rattle.shard.specs.Heads.{KnowsHeads};
+ghost use Rattle.shard.specs.Heads.{HasNotesFor, KnowsHeads, KnowsNoHeads};
 ghost use Rattle.groups.specs.Dead.{AreEntered, dead_among, forgotten, live_among, without_dead};
 ghost use Rattle.groups.specs.Directory.{KnowsGuests, struck, with_entries};
 ghost use Rattle.groups.specs.Group.{AreNoHeads, Ascend, GuestsAreNoHeads, HaveGuestsOnce};
@@ -16,7 +15,6 @@ ghost use Rattle.span.specs.declared.limits.TheConstants.{ALL_IDS};
 use super::Shard;
 use crate::group::Group;
 use crate::group_row::GroupRow;
-use crate::guest_notes::GuestNotes;
 use crate::head_indexes::HeadIndexes;
 use groups::Directory;
 use span::spans::Counted;
@@ -36,7 +34,6 @@ impl Shard<Counted> {
         forget_all(
             &mut self.groups,
             &mut self.directory,
-            &mut self.notes,
             &mut self.heads,
             self.number,
             self.group_room,
@@ -51,7 +48,6 @@ impl Shard<Counted> {
 fn forget_all(
     groups: &mut GroupRow<Counted>,
     directory: &mut Directory,
-    notes: &mut GuestNotes,
     heads: &mut HeadIndexes,
     number: u32,
     room: usize,
@@ -59,7 +55,7 @@ fn forget_all(
     requires room { length groups.old.items + room ≤ groups.old.room }
     requires known { KnowsGuests groups.old.items directory.old.entries }
     requires ascend { Ascend groups.old.items }
-    requires noted { KnowsNotes number directory.old.entries notes.old }
+    requires noted { KnowsNoHeads number groups.old.items directory.old.entries heads.old }
     requires heads { KnowsHeads number groups.old.items heads.old }
     requires apart { GuestsAreNoHeads groups.old.items }
     requires once { HaveGuestsOnce groups.old.items }
@@ -67,12 +63,11 @@ fn forget_all(
     ensures capacity { length groups.new.items + room ≤ groups.new.room }
     ensures known { KnowsGuests groups.new.items directory.new.entries }
     ensures room { directory.new.room ≡ directory.old.room }
-    ensures noted { KnowsNotes number directory.new.entries notes.new }
-    ensures end { end_of notes.new ≡ end_of notes.old }
+    ensures noted { KnowsNoHeads number groups.old.items directory.new.entries heads.new }
     ensures heads { KnowsHeads number groups.old.items heads.new }
-    ensures head_end { end_of heads.new ≡ end_of heads.old }
+    ensures end { end_of heads.new ≡ end_of heads.old }
 {
-    forget_each(groups, directory, notes, heads, number);
+    forget_each(groups, directory, heads, number);
     give_back(groups, room);
 }
 
@@ -93,13 +88,12 @@ fn give_back(groups: &mut GroupRow<Counted>, room: usize)
 fn forget_each(
     groups: &mut GroupRow<Counted>,
     directory: &mut Directory,
-    notes: &mut GuestNotes,
     heads: &mut HeadIndexes,
     number: u32,
 )
     requires known { KnowsGuests groups.old.items directory.old.entries }
     requires ascend { Ascend groups.old.items }
-    requires noted { KnowsNotes number directory.old.entries notes.old }
+    requires noted { KnowsNoHeads number groups.old.items directory.old.entries heads.old }
     requires heads { KnowsHeads number groups.old.items heads.old }
     requires apart { GuestsAreNoHeads groups.old.items }
     requires once { HaveGuestsOnce groups.old.items }
@@ -107,13 +101,12 @@ fn forget_each(
     ensures capacity { groups.new.room ≡ groups.old.room }
     ensures known { KnowsGuests groups.new.items directory.new.entries }
     ensures room { directory.new.room ≡ directory.old.room }
-    ensures noted { KnowsNotes number directory.new.entries notes.new }
-    ensures end { end_of notes.new ≡ end_of notes.old }
+    ensures noted { KnowsNoHeads number groups.old.items directory.new.entries heads.new }
     ensures heads { KnowsHeads number groups.old.items heads.new }
-    ensures head_end { end_of heads.new ≡ end_of heads.old }
+    ensures end { end_of heads.new ≡ end_of heads.old }
 {
     for index in 0..groups.len() {
-        forget_in(&mut groups[index], directory, notes, heads, number);
+        forget_in(&mut groups[index], directory, heads, number);
     }
 }
 
@@ -122,24 +115,25 @@ fn forget_each(
 fn forget_in(
     group: &mut Group<Counted>,
     directory: &mut Directory,
-    notes: &mut GuestNotes,
     heads: &mut HeadIndexes,
     number: u32,
 )
     requires entered { AreEntered (struck directory.old.entries (dead_among group.old.guests))
         (live_among group.old.guests) }
-    requires known { KnowsNotes number directory.old.entries notes.old }
+    requires fit { HasNotesFor number heads.old 0 (live_among group.old.guests) }
     ensures group { group.new ≡ without_dead group.old }
     ensures directory { directory.new
         ≡ with_entries directory.old (forgotten directory.old.entries group.old) }
-    ensures noted { KnowsNotes number directory.new.entries notes.new }
-    ensures end { end_of notes.new ≡ end_of notes.old }
+    ensures noted { (groups : List GroupState)
+        → KnowsNoHeads number groups directory.old.entries heads.old
+        → KnowsNoHeads number groups directory.new.entries heads.new }
     ensures heads { (groups : List GroupState) → KnowsHeads number groups heads.old
         → AreNoHeads groups group.old.guests → KnowsHeads number groups heads.new }
-    ensures head_end { end_of heads.new ≡ end_of heads.old }
+    ensures base { heads.new.base ≡ heads.old.base }
+    ensures end { end_of heads.new ≡ end_of heads.old }
 {
     directory.strike_dead(group.spans().guests());
-    notes.strike_dead_guests(number, group.spans().guests());
+    heads.strike_dead_guests(number, group.spans().guests());
     group.forget_guests();
     directory.move_all(group.spans().guests(), group.head_id());
     heads.note_guests(number, 0, group.spans().guests(), group.head_id());

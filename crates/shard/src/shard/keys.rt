@@ -1,10 +1,9 @@
 // Look-ups and frees, and where the span of a key stands.
-ghost use Rattle.std.specs.Prelude.{◌≡◌, ◌≢◌, ◌+◌, ◌<◌, ◌≤◌, ◌↔◌, ℕ, false, true, IfSome, IsSome, IsTrue, MatchOption, Some, is_some, length, slice_get};
+ghost use Rattle.std.specs.Prelude.{◌≡◌, ◌≢◌, ◌+◌, ◌<◌, ◌≤◌, ℕ, false, true, IfSome, MatchOption, is_some, length};
 ghost use Rattle.span.specs.Order.{HasNoneFrom, IsFirstFrom};
 ghost use Rattle.groups.specs.Group.{HasNoHead, IsElsewhere, IsHeadOf, StandsAt};
 ghost use Rattle.groups.specs.Shown.{without_if};
-ghost use Rattle.groups.specs.Spans.{HasNoSpan};
-ghost use Rattle.shard.specs.Calls.{FindsObject, Frees, Gets, StandsFirst, value_found, was_freed};
+ghost use Rattle.shard.specs.Calls.{FindsObject, Frees, Gets, value_found, was_freed};
 ghost use Rattle.shard.specs.Group.{GroupState};
 ghost use Rattle.shard.specs.Shown.{shown};
 ghost use Rattle.shard.specs.Sound.{IsSound};
@@ -33,11 +32,10 @@ impl<L: Log> Shard<L> {
         }
     }
 
-    /// What [`Shard::get`] finds, if the span of the key is the head of the group at the index of
-    /// its serial, as each head is while the shard has all groups that it opened, and no other;
-    /// else `None`. A caller asks on by [`Shard::get_noted`], and then by [`Shard::get_guest`],
-    /// [`Shard::is_away`] and [`Shard::get_searched`], each in a function that is not inlined. So
-    /// the way that mostly comes saves no registers for the others.
+    /// What [`Shard::get`] finds, if it is noted that the span of the key is a head here, else
+    /// `None`. A caller asks on by [`Shard::is_away`], [`Shard::get_guest`] and
+    /// [`Shard::get_searched`], in a function that is not inlined. So the way that mostly comes
+    /// saves no registers for the others.
     #[inline(always)]
     pub fn get_first(&self, key: &Key) -> Option<Found<'_>>
         ensures found { IfSome result (λ found. Gets self.now key.now found) }
@@ -45,32 +43,10 @@ impl<L: Log> Shard<L> {
         ensures width { IfSome result FindsObject }
         ensures plain { IfSome result (λ found. value_found found
             ≡ (shown self.now).value_of key.now) }
-        ensures first { IsSome result ↔ StandsFirst self.now.groups key.now.span }
     {
-        let first = key.span.serial as usize;
-        if !self.is_head(first, key.span) {
-            return None;
-        }
-        Some(self.get_at(first, 0, key))
-    }
-
-    /// What [`Shard::get`] finds, if it is noted that the span of the key is a head here, and where
-    /// it stands; else `None`.
-    #[inline(always)]
-    pub fn get_noted(&self, key: &Key) -> Option<Found<'_>>
-        ensures found { IfSome result (λ found. Gets self.now key.now found) }
-        ensures here { IfSome result (λ found. found ≢ Found.NotHere) }
-        ensures width { IfSome result FindsObject }
-        ensures plain { IfSome result (λ found. value_found found
-            ≡ (shown self.now).value_of key.now) }
-    {
-        let Some(note) = self.heads.note_of(key.span.serial) else {
+        let Some(index) = self.first_index(key.span) else {
             return None;
         };
-        let index = note as usize;
-        if !self.is_head(index, key.span) {
-            return None;
-        }
         Some(self.get_at(index, 0, key))
     }
 
@@ -104,17 +80,13 @@ impl<L: Log> Shard<L> {
         self.get_at(index, place, key)
     }
 
-    /// Whether it is noted of the span that it is neither a head nor a guest here. If not, it may
-    /// still be neither.
+    /// Whether it is noted of the span that it is neither a head nor a guest here, as it is of each
+    /// of the last spans that the shard opened.
     #[inline(always)]
     pub fn is_away(&self, id: SpanId) -> bool
         ensures { result ≡ true → IsElsewhere self.now.groups id }
     {
-        let (noted, is_noted) = self.noted_index(id);
-        if !is_noted || self.is_head(noted, id) {
-            return false;
-        }
-        self.is_no_guest(id)
+        id.shard == self.number && self.heads.tells_away(id.serial)
     }
 
     // What is found of the key in its span, which stands at the place of the group at the index.
@@ -153,28 +125,35 @@ impl<L: Log> Shard<L> {
         self.free_at(index, place, key)
     }
 
-    /// What [`Shard::free`] does, if the span of the key stands first
-    /// ([`Shard::stands_first`]). A caller that asks this first, and makes any other call in a
+    /// What [`Shard::free`] does, if the span of the key is the head of the group at the index
+    /// ([`Shard::first_index`]). A caller that asks this first, and makes any other call in a
     /// function that is not inlined, saves no registers for it on the way that mostly comes.
     #[inline(always)]
-    pub fn free_first(&mut self, key: &Key) -> Freed
-        requires { StandsFirst self.old.groups key.now.span }
+    pub fn free_first(&mut self, index: usize, key: &Key) -> Freed
+        requires { StandsAt self.old.groups key.now.span index 0 }
         ensures step { Frees self.old key.now result self.new }
         ensures here { result ≢ Freed.NotHere }
         ensures found { was_freed result ≡ is_some ((shown self.old).value_of key.now) }
         ensures plain { shown self.new ≡ without_if (was_freed result) (shown self.old) key.now }
         ensures sound { IsSound self.new }
     {
-        self.free_at(key.span.serial as usize, 0, key)
+        self.free_at(index, 0, key)
     }
 
-    /// Whether the span is the head of the group at the index of its serial, as each head is while
-    /// the shard has all groups that it opened, and no other.
+    /// The index of the group whose head the span is, if it is noted that it is one.
     #[inline(always)]
-    pub fn stands_first(&self, id: SpanId) -> bool
-        ensures { IsTrue result ↔ StandsFirst self.now.groups id }
+    pub fn first_index(&self, id: SpanId) -> Option<usize>
+        ensures place { IfSome result (λ index. StandsAt self.now.groups id index 0) }
+        ensures sound { IsSound self.now }
     {
-        self.is_head(id.serial as usize, id)
+        let Some(note) = self.heads.note_of(id.serial) else {
+            return None;
+        };
+        let index = note as usize;
+        if !self.is_head(index, id) {
+            return None;
+        }
+        Some(index)
     }
 
     // Frees the key in its span, which stands at the place of the group at the index.
@@ -213,31 +192,19 @@ impl<L: Log> Shard<L> {
         self.groups[index].span_at(place).first_from(slot)
     }
 
-    // Where the span of the id stands: its group, and its place there. Tried first is the index
-    // that a head has while the shard has all groups that it opened, and no other, and then what is
-    // noted of it. That much is inlined, so that the place stays in registers; a call would pass it
-    // through memory.
+    // Where the span of the id stands: its group, and its place there. It is asked first whether it
+    // is noted as a head. That much is inlined, so that the place stays in registers; a call would
+    // pass it through memory.
     #[inline(always)]
     pub(super) fn find(&self, id: SpanId) -> Option<(usize, usize)>
         ensures sound { IsSound self.now }
         ensures place { MatchOption result (IsElsewhere self.now.groups id) (λ at.
             StandsAt self.now.groups id at.0 at.1) }
     {
-        let first = id.serial as usize;
-        if self.is_head(first, id) {
-            return Some((first, 0));
+        if let Some(index) = self.first_index(id) {
+            return Some((index, 0));
         }
-        let (noted, _) = self.noted_index(id);
-        if self.is_head(noted, id) {
-            return Some((noted, 0));
-        }
-        if let Some(near) = self.near_guest(id) {
-            return Some(near);
-        }
-        if self.is_away(id) {
-            return None;
-        }
-        let (index, place) = self.find_moved(id);
+        let (index, place) = self.find_other(id);
         if index >= self.groups.len() {
             return None;
         }
@@ -298,18 +265,6 @@ impl<L: Log> Shard<L> {
         group.span_at(place).id() == guest
     }
 
-    // Whether it is noted of the span that it is no guest here.
-    #[inline(always)]
-    fn is_no_guest(&self, id: SpanId) -> bool
-        ensures { result ≡ true → (index : ℕ) (group : GroupState)
-            → slice_get self.now.groups index ≡ Some group → HasNoSpan group.guests id }
-    {
-        if !is_noted(self.number, self.notes.base(), id) {
-            return false;
-        }
-        self.notes.note_of(id.serial) == 0
-    }
-
     // The index that is noted for the head, and whether it is one of those that the shard notes:
     // its group stands there, if there is one.
     #[inline(always)]
@@ -324,18 +279,25 @@ impl<L: Log> Shard<L> {
         }
     }
 
-    // Where a span stands that no note led to. Two numbers come back in registers, and an option of
-    // them through memory, which a caller clears before it knows whether it asks.
+    // Where a span stands that is not noted as a head; past all groups where it stands nowhere. Two
+    // numbers come back in registers, and an option of them through memory, which a caller clears
+    // before it knows whether it asks.
     #[inline(never)]
-    fn find_moved(&self, id: SpanId) -> (usize, usize)
+    fn find_other(&self, id: SpanId) -> (usize, usize)
         ensures elsewhere { length self.now.groups ≤ result.0 → IsElsewhere self.now.groups id }
         ensures here { result.0 < length self.now.groups
             → StandsAt self.now.groups id result.0 result.1 }
     {
-        self.search(id)
+        if self.is_away(id) {
+            return self.nowhere();
+        }
+        match self.near_guest(id) {
+            Some(near) => near,
+            None => self.search(id),
+        }
     }
 
-    // The same: a guest goes by the directory, and any other span is found by halving. Past all
+    // The same, by no note: a guest goes by the directory, and any other span is found by halving. Past all
     // groups where it stands nowhere.
     #[inline(always)]
     fn search(&self, id: SpanId) -> (usize, usize)

@@ -37,7 +37,7 @@ impl<L: Log> Shard<L> {
         let (spans, page) = replace(group, place).into_parts();
         clear_byte(&mut self.least, index);
         self.directory.strike_all(spans.guests());
-        self.notes.strike_guests(self.number, spans.guests());
+        self.heads.strike_guests(self.number, spans.guests());
         self.onto = None;
         Some(Whole::new(spans, page))
     }
@@ -48,6 +48,7 @@ impl<L: Log> Shard<L> {
         ensures sound { IsSound self.new }
     {
         sweep_rooms(&self.groups, &mut self.rooms);
+        self.heads.strike_heads(self.number, &self.groups);
         self.groups.drop_left();
         self.heads.note_from(&self.groups, 0, self.number);
         clear_bytes(&mut self.least);

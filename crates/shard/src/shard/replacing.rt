@@ -3,7 +3,7 @@ ghost use Rattle.std.specs.Prelude.{◌≡◌, ◌≢◌, IfOk, OnErr, true};
 ghost use Rattle.span.specs.PlainMap as plain;
 ghost use Rattle.groups.specs.Group.{StandsAt};
 ghost use Rattle.groups.specs.Shown.{with_value_if};
-ghost use Rattle.shard.specs.Calls.{Sets, StandsFirst, was_replaced};
+ghost use Rattle.shard.specs.Calls.{Sets, was_replaced};
 ghost use Rattle.shard.specs.Shown.{shown};
 ghost use Rattle.shard.specs.Sound.{IsSound};
 
@@ -49,15 +49,20 @@ impl<L: Log> Shard<L> {
         self.set_at(index, place, key, words)
     }
 
-    /// What [`Shard::set`] does, if the span of the key stands first ([`Shard::stands_first`]): as
-    /// [`Shard::free_first`] is beside [`Shard::free`].
+    /// What [`Shard::set`] does, if the span of the key is the head of the group at the index
+    /// ([`Shard::first_index`]): as [`Shard::free_first`] is beside [`Shard::free`].
     ///
     /// # Errors
     ///
     /// `AllocError` as from [`Shard::set`].
     #[inline(always)]
-    pub fn set_first(&mut self, key: &Key, words: &[u128]) -> Result<Replaced, AllocError>
-        requires { StandsFirst self.old.groups key.now.span }
+    pub fn set_first(
+        &mut self,
+        index: usize,
+        key: &Key,
+        words: &[u128],
+    ) -> Result<Replaced, AllocError>
+        requires { StandsAt self.old.groups key.now.span index 0 }
         ensures step { IfOk result (λ answer. Sets self.old key.now words.now answer self.new) }
         ensures here { IfOk result (λ answer. answer ≢ Replaced.NotHere) }
         ensures found { IfOk result (λ answer. was_replaced answer
@@ -68,7 +73,7 @@ impl<L: Log> Shard<L> {
         ensures refused { OnErr result (plain.may_set (shown self.old) key.now words.now ≡ true) }
         ensures err { OnErr result (self.new ≡ self.old) }
     {
-        self.set_at(key.span.serial as usize, 0, key, words)
+        self.set_at(index, 0, key, words)
     }
 
     // Sets the key's object in its span, which stands at the place of the group at the index.

@@ -4,8 +4,9 @@ use Rattle.std.proofs.lemmas.Option.{slice_get_read, slice_get_within}
 use Rattle.span.specs.declared.id.SpanId.{SpanId}
 use Rattle.groups.proofs.Lists.{same_some}
 use Rattle.shard.specs.Group.{GroupState}
-use Rattle.shard.specs.Heads.{IsNoted, KnowsBelow}
+use Rattle.shard.specs.Heads.{IsNoted, KnowsBelow, KnowsNoHeads}
 use Rattle.shard.proofs.KnownHeads.{KnowsBelow-own}
+use Rattle.shard.proofs.NotedGuests.{KnowsNoHeads-noted}
 use Rattle.shard.proofs.head_indexes.note_heads.Goals as goal
 
 pub index_mut-requires : goal.index_mut-requires
@@ -28,6 +29,11 @@ loop-index-preserved g c =
           c.index.result.now here own
           (let low = c.requires.fit c.loop-index.index c.index.result.now here own in omega (arith, low, c.loop-index.invariant.1))),
       length-set c.loop-index.indexes.items (c.head_id-id.result.serial - c.args.base) c.loop-index.index ∙ c.loop-index.invariant.1,
+      λ entries knows.
+          subst (λ (id : SpanId). KnowsNoHeads c.args.number c.args.groups.now.items entries (record { base = c.args.base; entries = set c.loop-index.indexes.items (id.serial - c.args.base) c.loop-index.index }))
+          (sym c.head_id-id.ensures)
+          (KnowsNoHeads-noted c.args.number c.args.groups.now.items entries (record { base = c.args.base; entries = c.loop-index.indexes.items }) (c.loop-index.invariant.2 entries knows)
+          c.loop-index.index c.index.result.now here own),
     )
 
 -- one that is not noted has no entry
@@ -43,6 +49,7 @@ loop-index-preserved-then-not-is_noted g c =
         | inr apart ↦ c.loop-index.invariant.0 index group (omega (arith, below, apart)) there own
       ],
       c.loop-index.invariant.1,
+      c.loop-index.invariant.2,
     )
 
 pub returns-clause-known : goal.returns-clause-known

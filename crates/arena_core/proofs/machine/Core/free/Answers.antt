@@ -35,7 +35,7 @@ pub returns-clause-sound : goal.returns-clause-sound
 returns-clause-sound g c = (done g c).kept
 
 pub free_first-requires : goal.free_first-requires
-free_first-requires g c = c.stands_first.ensures.0 c.if-not-stands_first.false
+free_first-requires g c = c.in-Some-first_index.ensures.place
 
 -- there is no such shard
 
@@ -50,18 +50,18 @@ returns-in_default-clause-plain g c = subst (λ (old : CoreState). PlainStep old
 pub free_parts-requires : goal.free_parts-requires
 free_parts-requires g c = c.args.key.now.generation_in_range
 
--- the span does not stand first, and the shard is as it was
+-- the span is not noted as a head, and the shard is as it was
 
-pub invariant_of-self-then-not-stands_first : goal.invariant_of-self-then-not-stands_first
-invariant_of-self-then-not-stands_first g c =
+pub invariant_of-self-in_default-first_index : goal.invariant_of-self-in_default-first_index
+invariant_of-self-in_default-first_index g c =
     IsKept-same c.self.inside c.self.invariant c.args.key.now.span.shard c.in-Some.shard.now (record { within = c.in-Some.ensures.variant.0 refl; value = c.in-Some.ensures.value }) _ refl
 
-pub returns-then-not-stands_first-clause-exact : goal.returns-then-not-stands_first-clause-exact
-returns-then-not-stands_first-clause-exact g c = subst (λ old. CoreStep old (Free c.args.key.now) (Freed c.free_parts-then-not-stands_first.result) c.free_parts-then-not-stands_first.new.self)
+pub returns-in_default-first_index-clause-exact : goal.returns-in_default-first_index-clause-exact
+returns-in_default-first_index-clause-exact g c = subst (λ old. CoreStep old (Free c.args.key.now) (Freed c.free_parts-in_default-first_index.result) c.free_parts-in_default-first_index.new.self)
     (state_of-same c.self.inside c.args.key.now.span.shard c.in-Some.shard.now _ (record { within = c.in-Some.ensures.variant.0 refl; value = c.in-Some.ensures.value }) refl ∙ c.self.view_is)
-    (c.free_parts-then-not-stands_first.ensures.exact c.args.key.now (refl, refl, refl))
+    (c.free_parts-in_default-first_index.ensures.exact c.args.key.now (refl, refl, refl))
 
-pub returns-then-not-stands_first-clause-plain : goal.returns-then-not-stands_first-clause-plain
-returns-then-not-stands_first-clause-plain g c = subst (λ (old : CoreState). PlainStep old.limits (shown old) (Free c.args.key.now) (Freed c.free_parts-then-not-stands_first.result) (shown c.free_parts-then-not-stands_first.new.self))
+pub returns-in_default-first_index-clause-plain : goal.returns-in_default-first_index-clause-plain
+returns-in_default-first_index-clause-plain g c = subst (λ (old : CoreState). PlainStep old.limits (shown old) (Free c.args.key.now) (Freed c.free_parts-in_default-first_index.result) (shown c.free_parts-in_default-first_index.new.self))
     (state_of-same c.self.inside c.args.key.now.span.shard c.in-Some.shard.now _ (record { within = c.in-Some.ensures.variant.0 refl; value = c.in-Some.ensures.value }) refl ∙ c.self.view_is)
-    (c.free_parts-then-not-stands_first.ensures.plain c.args.key.now (refl, refl, refl))
+    (c.free_parts-in_default-first_index.ensures.plain c.args.key.now (refl, refl, refl))

@@ -26,13 +26,13 @@ returns-in_default-clause-object g c = c.some_words.ensures.object c.get_unmade.
 
 -- the shard is asked
 
-pub get_noted-requires-clause-here : goal.get_noted-requires-clause-here
-get_noted-requires-clause-here g c =
+pub get_other-requires-clause-here : goal.get_other-requires-clause-here
+get_other-requires-clause-here g c =
     ap (λ (s : CoreState). slice_get s.shards c.args.key.now.span.shard) (sym c.self.view_is)
     ∙ shard-lent c.self.inside c.deref.result.now c.args.key.now.span.shard c.in-Some.shard c.deref.ensures.value c.in-Some.ensures.lookup
 
-pub get_noted-requires-clause-generation : goal.get_noted-requires-clause-generation
-get_noted-requires-clause-generation g c = c.args.key.now.generation_in_range
+pub get_other-requires-clause-generation : goal.get_other-requires-clause-generation
+get_other-requires-clause-generation g c = c.args.key.now.generation_in_range
 
 pub returns-in-Some-get_first-clause-value : goal.returns-in-Some-get_first-clause-value
 returns-in-Some-get_first-clause-value g c =
@@ -43,7 +43,7 @@ returns-in-Some-get_first-clause-value g c =
     c.in-Some-get_first.ensures.here c.in-Some-get_first.ensures.found c.in-Some-get_first.ensures.plain
 
 pub returns-in-None-clause-value : goal.returns-in-None-clause-value
-returns-in-None-clause-value g c = c.some_words-in-None.ensures.value ∙ c.get_noted.ensures.value c.args.key.now refl refl refl
+returns-in-None-clause-value g c = c.some_words-in-None.ensures.value ∙ c.get_other.ensures.value c.args.key.now refl refl refl
 
 pub returns-in-None-clause-object : goal.returns-in-None-clause-object
-returns-in-None-clause-object g c = c.some_words-in-None.ensures.object c.get_noted.ensures.object
+returns-in-None-clause-object g c = c.some_words-in-None.ensures.object c.get_other.ensures.object

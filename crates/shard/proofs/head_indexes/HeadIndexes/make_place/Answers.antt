@@ -17,11 +17,11 @@ returns-clause-known c number groups group long knows =
     KnowsOthers-raised number groups c.args.self.now knows c.args.index group (omega (arith, long, c.requires.within)) (omega (arith, long, c.requires.few)) now base all
 
 pub returns-clause-guests : goal.returns-clause-guests
-returns-clause-guests c serial note far was =
+returns-clause-guests c serial far =
     let now : HeadWindow = record { base = c.self.inside.base; entries = c.raise_from.new.indexes.items } in
     let base = ap (λ (w : HeadWindow). w.base) c.self.view_is in
     let all = c.raise_from.ensures ∙ ap (λ (w : HeadWindow). map_list (raised c.args.index) w.entries) c.self.view_is in
-    guests-raised c.args.self.now now base c.args.index all serial note far was
+    guests-raised c.args.self.now now base c.args.index all serial far
 
 pub returns-clause-end : goal.returns-clause-end
 returns-clause-end c =

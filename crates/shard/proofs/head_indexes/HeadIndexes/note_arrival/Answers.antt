@@ -10,9 +10,9 @@ returns-clause-known c groups group long is none fits knows =
     (λ mine.
     let from = mine.1 in
     let low = fits (mine.0, omega (arith, from, c.make_place.ensures.base)) in
-    c.write.ensures.this mine (omega (arith, low, c.make_place.ensures.end)))
-    c.write.ensures.others
+    c.write.ensures.entry mine (omega (arith, low, c.make_place.ensures.end)))
+    c.write.ensures.entries
 
 pub returns-clause-guests : goal.returns-clause-guests
-returns-clause-guests c serial note from far apart was =
-    c.write.ensures.others serial (omega (arith, from, c.make_place.ensures.base)) apart ∙ c.make_place.ensures.guests serial note far was
+returns-clause-guests c serial from far apart =
+    c.write.ensures.others serial (omega (arith, from, c.make_place.ensures.base)) apart ∙ c.make_place.ensures.guests serial far

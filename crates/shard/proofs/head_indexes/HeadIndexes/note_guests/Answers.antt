@@ -1,21 +1,22 @@
-use Rattle.std.proofs.Common.{◌≡◌, ℕ, ◌+◌, ◌<◌, ◌∙◌, Some, slice_get, ap, arith, inl, inr, refl, subst, sym}
-use Rattle.std.proofs.lemmas.Bool.{cases_eq}
-use Rattle.std.proofs.lemmas.Option.{slice_get_read, slice_get_within}
-use Rattle.groups.proofs.Lists.{same_some}
+use Rattle.std.proofs.Common.{◌≡◌, ◌+◌, ◌<◌, ◌∙◌, Some, slice_get, ap, arith, refl, subst, sym}
+use Rattle.std.specs.FinMap as map
+use Rattle.std.proofs.lemmas.Option.{slice_get_read}
+use Rattle.groups.specs.Directory.{Entries}
 use Rattle.groups.specs.Group.{HasNoHead}
-use Rattle.span.proofs.Ids.{same_id}
-use Rattle.span.specs.State.{SpanState}
+use Rattle.groups.specs.declared.directory.Place.{Place}
+use Rattle.span.specs.Ids.{rank}
 use Rattle.span.specs.declared.id.SpanId.{SpanId}
-use Rattle.shard.specs.HeadWindow.{entry_of}
-use Rattle.shard.specs.Heads.{IsNoted, note_at}
+use Rattle.shard.specs.HeadWindow.{end_of}
+use Rattle.shard.specs.Heads.{IsNoted, KnowsNoHeads}
 use Rattle.shard.proofs.KnownHeads.{KnowsHeads-written}
+use Rattle.shard.proofs.NotedGuests.{KnowsNoHeads-insert, entered-all, entered-next}
 use Rattle.shard.proofs.head_indexes.HeadIndexes.note_guests.Goals as goal
 
-pub returns-clause-noted : goal.returns-clause-noted
-returns-clause-noted g c place guest there behind own fits last =
-    let within = slice_get_within c.args.guests.now place guest there in
-    c.loop-place.invariant.noted place guest there behind (omega (arith, within, c.loop-place-test.false)) own fits
-    (λ later span after below at same. last later span after (slice_get_within c.args.guests.now later span at) at same)
+pub returns-clause-known : goal.returns-clause-known
+returns-clause-known g c groups entries knows =
+    let was = c.loop-place.invariant.known groups entries knows in
+    subst (λ (es : Entries). KnowsNoHeads c.args.number groups es c.loop-place.self)
+    (sym (entered-all was.0 c.args.guests.now c.args.head c.loop-place.place (omega (arith, c.loop-place-test.false))) ∙ was.2) was.1
 
 pub loop-place-preserved : goal.loop-place-preserved
 loop-place-preserved g c =
@@ -28,27 +29,21 @@ loop-place-preserved g c =
       least = omega (arith, c.loop-place.invariant.least);
       heads = λ groups knows apart.
           KnowsHeads-written c.args.number groups c.loop-place.self c.write.new.self c.write.ensures.base c.id.result
-          (subst (HasNoHead groups) (sym id) (apart c.loop-place.place guest here c.loop-place.invariant.least)) c.write.ensures.others
+          (subst (HasNoHead groups) (sym id) (apart c.loop-place.place guest here c.loop-place.invariant.least)) c.write.ensures.entries
           (c.loop-place.invariant.heads groups knows apart);
-      noted = λ place other there behind below own fits last. elim (cases_eq place c.loop-place.place) [
-        | inl same ↦
-            let one : other ≡ guest = same_some (sym there ∙ ap (slice_get c.args.guests.now) same ∙ here) in
-            let which : other.id ≡ c.id.result = ap (λ (s : SpanState). s.id) one ∙ sym id in
-            let low = own.1 in
-            let serial : other.id.serial ≡ c.id.result.serial = ap (λ (i : SpanId). i.serial) which in
-            let mine : IsNoted c.args.number c.loop-place.self.base c.id.result = (
-              ap (λ (i : SpanId). i.shard) (sym which) ∙ own.0,
-              omega (arith, low, serial, c.loop-place.invariant.base),
-            ) in
-            ap (entry_of c.write.new.self) serial
-            ∙ c.write.ensures.this mine (omega (arith, fits, serial, c.loop-place.invariant.end))
-            ∙ ap Some c.note_at-note.ensures
-            ∙ ap (λ (p : ℕ). Some (note_at c.args.number (record { head = c.args.head; place = p + 1 }))) (sym same)
-        | inr apart ↦
-            let less : place < c.loop-place.place = omega (arith, below, apart) in
-            let low = own.1 in
-            c.write.ensures.others other.id.serial (omega (arith, low, c.loop-place.invariant.base))
-            (λ shard serial. last c.loop-place.place guest less (omega arith) here (sym id ∙ same_id c.id.result other.id (shard ∙ sym own.0) (sym serial)))
-            ∙ c.loop-place.invariant.noted place other there behind less own fits (λ later span after under at same. last later span after (omega (arith, under)) at same)
-      ];
+      known = λ groups entries knows.
+          let was = c.loop-place.invariant.known groups entries knows in
+          let at : Place = record { head = c.args.head; place = c.loop-place.place + 1 } in
+          let fits : IsNoted c.args.number c.loop-place.self.base c.id.result → c.id.result.serial < end_of c.loop-place.self = λ own.
+          let serial = ap (λ (i : SpanId). i.serial) id in
+          let low = own.1 in
+          let below = c.requires.room c.loop-place.place guest here c.loop-place.invariant.least
+          (ap (λ (i : SpanId). i.shard) (sym id) ∙ own.0, omega (arith, low, serial, c.loop-place.invariant.base)) in
+          omega (arith, below, serial, c.loop-place.invariant.end) in (
+            map.insert was.0 (rank guest.id) at,
+            subst (λ (i : SpanId). KnowsNoHeads c.args.number groups (map.insert was.0 (rank i) at) c.write.new.self) id
+                (KnowsNoHeads-insert c.args.number groups was.0 c.loop-place.self was.1 c.write.new.self c.write.ensures.base c.id.result c.write.ensures.others at
+                (λ own. c.write.ensures.this own (fits own) ∙ c.note_at-note.ensures)),
+            entered-next was.0 c.args.guests.now c.args.head c.loop-place.place guest here ∙ was.2,
+          );
     }

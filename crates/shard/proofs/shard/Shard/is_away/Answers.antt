@@ -1,12 +1,13 @@
-use Rattle.std.proofs.Common.{subst, sym}
-use Rattle.groups.specs.Group.{HasNoHead, IsHeadOf}
-use Rattle.shard.proofs.NotedGuests.{IsElsewhere-no_guest}
+use Rattle.std.proofs.Common.{arith, eqb-true, subst}
+use Rattle.groups.specs.Group.{IsElsewhere}
+use Rattle.shard.specs.State.{ShardState}
+use Rattle.shard.proofs.NotedGuests.{IsElsewhere-away}
 use Rattle.shard.proofs.shard.Shard.is_away.Goals as goal
 
--- a head that is noted stands where its note says, or nowhere
-pub returns : goal.returns
-returns g c is =
-    let none : HasNoHead c.args.self.now.groups c.args.id = λ index group at.
-    c.is_head.ensures.no c.if-is_head.false group
-    (subst (λ i. IsHeadOf c.args.self.now.groups c.args.id i group) (sym (c.noted_index-noted.ensures c.if-not-is_noted.false index group at)) at) in
-    IsElsewhere-no_guest c.args.self.now.groups c.args.id none (c.is_no_guest.ensures is)
+pub returns-then-eq : goal.returns-then-eq
+returns-then-eq g c is =
+    let away = c.tells_away.ensures is in
+    let limit = c.self.invariant.sound.limit in
+    subst (λ (s : ShardState). IsElsewhere s.groups c.args.id) c.self.view_is
+    (IsElsewhere-away c.self.inside.number c.self.inside.groups.items c.self.inside.directory.entries c.self.inside.heads (omega (arith, limit, c.self.invariant.pages_fit))
+    c.self.invariant.heads_known c.self.invariant.guests_known c.self.invariant.others_known c.args.id (omega arith, away.0) away.1)

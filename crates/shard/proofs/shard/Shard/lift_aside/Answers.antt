@@ -1,4 +1,4 @@
-use Rattle.std.proofs.Common.{◌≡◌, ◌≤◌, ◌+◌, ◌∙◌, ℕ, List, None, ap, arith, inl, length, length-set, refl, set, subst, sym}
+use Rattle.std.proofs.Common.{◌≡◌, ◌≤◌, ◌+◌, ◌∙◌, ℕ, List, None, ap, arith, inl, length, length-set, refl, set, slice_get, subst, sym}
 use Rattle.std.specs.Prelude.{filter, remove, vec_len}
 use Rattle.groups.specs.Directory.{DirectoryState}
 use Rattle.groups.specs.Group.{HasNoHead, IsHeadOf}
@@ -16,7 +16,10 @@ use Rattle.shard.proofs.HeadsHere.{head_read}
 use Rattle.shard.proofs.KeptGroups.{IsKept-same}
 use Rattle.shard.proofs.Left.{HasNoHead-left, HasNoHead-swept, IsSound-left, KnowsGuests-left, stayed-left}
 use Rattle.shard.proofs.LiftedGroup.{IsSoundWhole-lifted}
-use Rattle.shard.proofs.NotedGuests.{AreNoted-changed, KnowsNotes-struck}
+use Rattle.shard.proofs.Forgotten.{no_head-guest}
+use Rattle.shard.proofs.NotedGuests.{KnowsNoHeads-set, KnowsNoHeads-struck}
+use Rattle.span.specs.State.{SpanState}
+use Rattle.groups.specs.Spans.{SpansState}
 use Rattle.shard.proofs.RoomBits.{HasRooms-full}
 use Rattle.shard.proofs.shard.Shard.lift_aside.Goals as goal
 
@@ -61,6 +64,9 @@ here_now g c = head_read c.self.inside.groups.items c.args.self.now.groups
 place_now : (g : _) (c : goal.After-new g) → c.replace.new.dest ≡ left_place c.index_mut-group.result.now.head.id c.class.result c.self.inside.gens
 place_now g c = c.replace.ensures.after ∙ c.left_by-place.ensures ∙ ap (λ id. left_place id c.class.result c.self.inside.gens) c.head_id.ensures
 
+guests_were : (g : _) (c : goal.After-new g) → c.guests-2.result.now ≡ c.index_mut-group.result.now.guests
+guests_were g c = c.guests-2.ensures ∙ ap (λ (s : SpansState). s.guests) c.into_parts-spans.ensures.spans ∙ ap (λ (x : GroupState). x.guests) c.replace.ensures.value
+
 pub invariant_of-self-2 : goal.invariant_of-self-2
 invariant_of-self-2 g c =
     let group = c.index_mut-group.result.now in
@@ -89,12 +95,19 @@ invariant_of-self-2 g c =
           (KnowsGuests-left (state_of c.self.inside) c.self.invariant.sound c.in-Some.index group here c.class.result c.self.inside.directory.entries c.self.invariant.guests_known);
       room_for_entries = omega (arith, c.self.invariant.room_for_entries, ap (λ (d : DirectoryState). d.room) c.strike_all.ensures);
       heads_known = rw (place_now g c)
-          (KnowsHeads-set c.self.inside.number c.self.inside.groups.items c.self.inside.heads c.self.invariant.heads_known c.in-Some.index group place here refl);
-      room_for_heads = c.self.invariant.room_for_heads;
-      guests_noted = AreNoted-changed _ _ _ _ _ _ c.self.invariant.guests_noted _ c.strike_guests.new.self
-          (KnowsNotes-struck _ c.self.inside.directory.entries _ c.strike_guests.new.self _ _ (c.strike_guests.ensures.known _ c.self.invariant.guests_noted.known)
+          (KnowsHeads-set c.self.inside.number c.self.inside.groups.items c.strike_guests.new.self
+          (c.strike_guests.ensures.heads c.self.inside.groups.items c.self.invariant.heads_known
+          (λ at guest there from. no_head-guest c.self.inside.groups.items c.self.invariant.sound.once c.in-Some.index at group guest here
+          (ap (λ (spans : List SpanState). slice_get spans at) (sym (guests_were g c)) ∙ there)))
+          c.in-Some.index group place here refl);
+      room_for_heads = λ some. let enough = c.self.invariant.room_for_heads some in omega (arith, enough, c.strike_guests.ensures.end);
+      others_known = rw (place_now g c)
+          (KnowsNoHeads-set c.self.inside.number c.self.inside.groups.items c.strike_all.new.self.entries c.strike_guests.new.self
+          (KnowsNoHeads-struck c.self.inside.number c.self.inside.groups.items c.self.inside.directory.entries c.strike_all.new.self.entries c.strike_guests.new.self _ _
+          (c.strike_guests.ensures.known c.self.inside.groups.items c.self.inside.directory.entries c.self.invariant.others_known)
           (c.guests-2.ensures ∙ sym c.guests.ensures) (ap (λ (d : DirectoryState). d.entries) c.strike_all.ensures))
-          c.strike_guests.ensures.end;
+          c.in-Some.index group place here refl);
+      room_for_notes = λ head named. absurd cc;
       least_known = c.clear_byte.ensures.known c.self.inside.groups.items c.replace.new.dest c.self.invariant.least_known;
       room_for_bytes = subst (λ (n : ℕ). n + c.self.inside.group_room ≤ vec_len c.clear_byte.new.least) (sym many) (omega (arith, c.self.invariant.room_for_bytes, c.clear_byte.ensures.len));
     }

@@ -23,13 +23,13 @@ use Rattle.shard.specs.Rooms.{HaveRoom, room_of, rooms_of}
 use Rattle.shard.specs.State.{ShardState}
 use Rattle.span.specs.declared.class.Class.{Class}
 use Rattle.shard.proofs.ClassesHere.{HaveRoom-insert, HaveRoom-noted}
-use Rattle.shard.proofs.KnownHeads.{KnowsHeads-moved}
+use Rattle.shard.proofs.KnownHeads.{KnowsHeads-more}
 use Rattle.shard.proofs.Classes.{cases_class}
 use Rattle.shard.proofs.GuestRoom.{HasGuestRoom-none}
 use Rattle.shard.proofs.HeadPlaces.{IsPlaceFor-lower, no_head_next}
 use Rattle.shard.proofs.KeptGroups.{IsKept-bytes, IsKept-more_heads, IsKept-same}
 use Rattle.shard.proofs.KnownGuests.{KnowsGuests-alone}
-use Rattle.shard.proofs.NotedGuests.{AreNoted-come}
+use Rattle.shard.proofs.NotedGuests.{KnowsNoHeads-arrived, KnowsNoHeads-more}
 use Rattle.shard.proofs.PutInNew.{IsSound-put_in_new}
 use Rattle.shard.proofs.RoomBits.{HasRooms-arrived, HasRooms-arrived_other}
 use Rattle.shard.proofs.shard.Shard.put_in_new.Goals as goal
@@ -192,10 +192,15 @@ invariant_of-self-2 g c = record {
       (omega (arith, c.len-4.ensures, c.insert_reserved.ensures.len, c.in_ok-reserve_group.ensures.len)) refl
       (λ index group at. no_head_next (state_of c.self.inside) c.self.invariant.sound c.in-Some.id c.in-Some.ensures.parts.0 c.in-Some.ensures.parts.1 index group at.here at.head_is)
       (λ own. omega (arith, c.in-Some.ensures.parts.1, c.in_ok-reserve-2.ensures.ok))
-      (KnowsHeads-moved (state_of c.self.inside) c.self.invariant.sound c.self.inside.heads c.self.invariant.heads_known (c.self.inside.opened + 1) (omega arith) c.reserve-2.new.self
-      c.in_ok-reserve-2.ensures.base c.in_ok-reserve-2.ensures.same));
+      (KnowsHeads-more c.self.inside.number c.self.inside.groups.items c.self.inside.heads c.self.invariant.heads_known c.reserve-2.new.self
+      c.in_ok-reserve-2.ensures.base c.in_ok-reserve-2.ensures.same c.in_ok-reserve-2.ensures.more));
   room_for_heads = λ some. omega (arith, c.in_ok-reserve-2.ensures.ok, c.note_arrival-2.ensures.end);
-  guests_noted = AreNoted-come _ _ _ _ _ _ c.self.invariant.guests_noted _ _ c.self.invariant.guests_noted.known _ _ c.saturating_sub-self-inside.ensures;
+  others_known = rw (groups_now g c)
+      (KnowsNoHeads-arrived c.self.inside.number c.self.inside.groups.items c.self.inside.directory.entries c.reserve-2.new.self
+      (KnowsNoHeads-more c.self.inside.number c.self.inside.groups.items c.self.inside.directory.entries c.self.inside.heads c.self.invariant.others_known c.reserve-2.new.self
+      c.in_ok-reserve-2.ensures.base c.in_ok-reserve-2.ensures.same)
+      c.in-Some.id c.lower_heads-index.result (made g c) (place_now g c).within refl c.note_arrival-2.new.self c.note_arrival-2.ensures.base c.note_arrival-2.ensures.guests);
+  room_for_notes = λ head named. absurd cc;
   least_known = rw (groups_now g c) (c.add_byte.ensures.known c.self.inside.groups.items (made g c) (place_now g c).within (noted g c));
   room_for_bytes = omega (
     arith,
@@ -258,7 +263,7 @@ invariant_of-self-in_err-reserve-2 g c =
     IsKept-more_heads _ (IsKept-same c.self.inside c.self.invariant c.reserve_group.new.groups c.reserve.new.self c.in_ok-reserve_group.ensures.items
     (omega (arith, c.in_ok-reserve_group.ensures.capacity)) (λ class. rw (c.in_ok-reserve.ensures.same class) (c.self.invariant.rooms class))
     (λ class. omega (arith, c.in_ok-reserve.ensures.more class)))
-    (c.self.inside.opened + 1) (omega arith) c.reserve-2.new.self c.in_err-reserve-2.ensures.base c.in_err-reserve-2.ensures.same c.in_err-reserve-2.ensures.more
+    c.reserve-2.new.self c.in_err-reserve-2.ensures.base c.in_err-reserve-2.ensures.same c.in_err-reserve-2.ensures.more
 
 -- where there was no room for a byte more, the bytes say what they said
 pub invariant_of-self-in_err-reserve_bytes : goal.invariant_of-self-in_err-reserve_bytes
@@ -266,7 +271,7 @@ invariant_of-self-in_err-reserve_bytes g c =
     IsKept-bytes _ (IsKept-more_heads _ (IsKept-same c.self.inside c.self.invariant c.reserve_group.new.groups c.reserve.new.self c.in_ok-reserve_group.ensures.items
     (omega (arith, c.in_ok-reserve_group.ensures.capacity)) (λ class. rw (c.in_ok-reserve.ensures.same class) (c.self.invariant.rooms class))
     (λ class. omega (arith, c.in_ok-reserve.ensures.more class)))
-    (c.self.inside.opened + 1) (omega arith) c.reserve-2.new.self c.in_ok-reserve-2.ensures.base c.in_ok-reserve-2.ensures.same c.in_ok-reserve-2.ensures.more)
+    c.reserve-2.new.self c.in_ok-reserve-2.ensures.base c.in_ok-reserve-2.ensures.same c.in_ok-reserve-2.ensures.more)
     c.reserve_bytes.new.least c.in_err-reserve_bytes.ensures.no_fewer (rw c.in_ok-reserve_group.ensures.items (c.in_err-reserve_bytes.ensures.known c.self.inside.groups.items c.self.invariant.least_known))
 
 pub add_byte-requires : goal.add_byte-requires

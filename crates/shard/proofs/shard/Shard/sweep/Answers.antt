@@ -1,7 +1,10 @@
-use Rattle.std.proofs.Common.{◌≤◌, ap, arith, length, refl, subst, sym}
+use Rattle.std.proofs.Common.{◌≡◌, ◌≤◌, [], ap, arith, length, refl, subst, sym}
 use Rattle.std.specs.Prelude.{vec_capacity}
 use Rattle.shard.specs.Kept.{state_of}
-use Rattle.shard.specs.Heads.{AreReady}
+use Rattle.shard.specs.HeadWindow.{end_of}
+use Rattle.shard.specs.Heads.{AreReady, KnowsNoHeads}
+use Rattle.shard.proofs.Forgotten.{no_head-guest}
+use Rattle.shard.proofs.NotedGuests.{no_entry-head}
 use Rattle.shard.proofs.ClassesHere.{HaveRoom-same, HaveRoom-swept}
 use Rattle.shard.proofs.KnownHeads.{AreReady-swept}
 use Rattle.shard.proofs.Left.{HasGuestRoom-swept, IsSound-swept, KnowsGuests-swept, length-stayed}
@@ -14,6 +17,16 @@ pub sweep_rooms-requires-clause-room : goal.sweep_rooms-requires-clause-room
 sweep_rooms-requires-clause-room g c =
     HaveRoom-same c.self.inside.groups.items c.self.inside.rooms _ c.self.invariant.room_for_rooms _ refl c.self.inside.rooms _
     (omega arith) (λ class. omega arith)
+
+noted_end : (g : _) (c : goal.After-clear_bytes g) → end_of c.note_from.new.self ≡ end_of c.self.inside.heads
+noted_end g c = omega (arith, c.note_from.ensures.base, c.note_from.ensures.len, c.strike_heads.ensures.end)
+
+-- no head is noted before those are that have not left
+away : (g : _) (c : goal.After-clear_bytes g) → KnowsNoHeads c.self.inside.number [] c.self.inside.directory.entries c.strike_heads.new.self
+away g c =
+    c.strike_heads.ensures.known c.self.inside.directory.entries
+    (no_entry-head c.self.inside.groups.items c.self.inside.directory.entries c.self.invariant.guests_known (no_head-guest c.self.inside.groups.items c.self.invariant.sound.once))
+    c.self.invariant.others_known
 
 pub invariant_of-self : goal.invariant_of-self
 invariant_of-self g c =
@@ -37,8 +50,10 @@ invariant_of-self g c =
       guests_known = rw c.drop_left.ensures.items (KnowsGuests-swept c.self.inside.groups.items c.self.inside.directory.entries c.self.invariant.guests_known);
       room_for_entries = c.self.invariant.room_for_entries;
       heads_known = c.note_from.ensures.known;
-      room_for_heads = λ some. let enough = c.self.invariant.room_for_heads some in omega (arith, enough, c.note_from.ensures.base, c.note_from.ensures.len);
-      guests_noted = c.self.invariant.guests_noted;
+      room_for_heads = λ some. let enough = c.self.invariant.room_for_heads some in omega (arith, enough, noted_end g c);
+      others_known = c.note_from.ensures.others c.self.inside.directory.entries
+          (λ id own none. away g c id own (λ index group at. absurd (let e = at.here in cc)));
+      room_for_notes = λ head named. let enough = c.self.invariant.room_for_notes head named in omega (arith, enough, noted_end g c);
       least_known = c.clear_bytes.ensures.known c.drop_left.new.self.items;
       room_for_bytes = omega (arith, fewer, c.self.invariant.room_for_bytes, c.clear_bytes.ensures.len);
     }
@@ -48,5 +63,6 @@ returns-clause-sound g c = (invariant_of-self g c).sound
 
 pub note_from-requires : goal.note_from-requires
 note_from-requires g c =
-    subst (λ gs. AreReady c.self.inside.number gs c.self.inside.heads 0) (sym c.drop_left.ensures.items)
-    (AreReady-swept (state_of c.self.inside) c.self.invariant.sound c.self.inside.heads c.self.invariant.heads_known c.self.invariant.pages_fit)
+    subst (λ gs. AreReady c.self.inside.number gs c.strike_heads.new.self 0) (sym c.drop_left.ensures.items)
+    (AreReady-swept (state_of c.self.inside) c.self.invariant.sound c.self.inside.heads c.self.invariant.heads_known c.self.invariant.pages_fit c.strike_heads.new.self
+    c.strike_heads.ensures.base c.strike_heads.ensures.end)

@@ -6,7 +6,7 @@ use Rattle.shard.proofs.KnownHeads.{KnowsHeads-none}
 use Rattle.groups.proofs.KnownLeast.{KnowsLeast-no_bytes}
 use Rattle.shard.specs.Least.{IsLeast}
 use Rattle.shard.proofs.GuestRoom.{HasGuestRoom-none}
-use Rattle.shard.proofs.NotedGuests.{KnowsNotes-none}
+use Rattle.shard.proofs.NotedGuests.{KnowsNoHeads-none}
 use Rattle.shard.proofs.RoomBits.{HasRooms-empty}
 use Rattle.shard.proofs.Start.{IsSound-new}
 use Rattle.shard.proofs.shard.Shard.with_slots.Goals as goal
@@ -27,14 +27,10 @@ invariant_of-result g c = record {
   room_for_entries = omega arith;
   heads_known = KnowsHeads-none _ _ _ c.new.ensures.items;
   room_for_heads = λ some. absurd (omega (arith, some));
-  guests_noted = record {
-    known = KnowsNotes-none _ _ _ c.new-6.ensures (ap (λ (d : DirectoryState). d.entries) c.new-4.ensures);
-    one_group = omega arith;
-    for_group = λ some. absurd (omega (arith, some));
-    for_guests = λ head named. absurd cc;
-  };
-  least_known = rw c.new-7.ensures.items (KnowsLeast-no_bytes IsLeast _);
-  room_for_bytes = omega (arith, ap length c.new.ensures.items, c.new-7.result.ok.1);
+  others_known = KnowsNoHeads-none _ _ _ _ c.new-3.ensures (ap (λ (d : DirectoryState). d.entries) c.new-4.ensures);
+  room_for_notes = λ head named. absurd cc;
+  least_known = rw c.new-6.ensures.items (KnowsLeast-no_bytes IsLeast _);
+  room_for_bytes = omega (arith, ap length c.new.ensures.items, c.new-6.result.ok.1);
 }
 
 pub returns-clause-sound : goal.returns-clause-sound

@@ -1,15 +1,28 @@
 use Rattle.std.proofs.Common.{◌≡◌, ◌∙◌, List, Some, ap, arith, length, refl, set, slice_get, sym}
 use Rattle.std.proofs.lemmas.Option.{slice_get_read}
-use Rattle.groups.specs.Dead.{without_dead}
+use Rattle.groups.specs.Dead.{is_live, without_dead}
 use Rattle.groups.specs.Group.{Ascend}
 use Rattle.groups.proofs.ForgottenGuests.{AreEntered-forgotten, KnowsGuests-forgotten}
 use Rattle.shard.specs.Group.{GroupState}
 use Rattle.shard.proofs.ChangedBelow.{changed_below-all, changed_below-next, get-changed_below, length-changed_below}
 use Rattle.shard.proofs.Forgotten.{Ascend-changed_below}
+use Rattle.shard.proofs.NotedGuests.{within-noted}
+use Rattle.shard.proofs.Sparse.{before-filter}
 use Rattle.shard.proofs.shard.forgetting.forget_each.Goals as goal
 
-pub forget_in-requires-clause-known : goal.forget_in-requires-clause-known
-forget_in-requires-clause-known c = c.loop-index.invariant.noted
+pub forget_in-requires-clause-fit : goal.forget_in-requires-clause-fit
+forget_in-requires-clause-fit c place guest there behind own =
+    let now = c.loop-index.groups.items in
+    let at = c.loop-index.index in
+    let first = c.args.groups.now.items in
+    let group = c.index_mut.result.now in
+    let is = c.loop-index.invariant.items in
+    let here : slice_get now at ≡ Some group =
+    slice_get_read now _ at group refl (omega (arith, ap length is, length-changed_below without_dead at first, c.len-index-end.ensures)) c.index_mut.ensures.value in
+    let was : slice_get first at ≡ Some group = sym (get-changed_below without_dead at first) ∙ ap (λ (groups : List GroupState). slice_get groups at) (sym is) ∙ here in
+    let stood = before-filter is_live group.guests place guest there in
+    within-noted c.args.number first c.loop-index.directory.entries c.loop-index.heads c.loop-index.invariant.noted guest.id _
+    (c.loop-index.invariant.known.known at stood.0 group guest here stood.1) own (c.requires.apart at stood.0 group guest was stood.1)
 
 pub forget_in-requires-clause-entered : goal.forget_in-requires-clause-entered
 forget_in-requires-clause-entered c =
@@ -44,10 +57,9 @@ loop-index-preserved c =
       capacity = c.loop-index.invariant.capacity;
       known = rw (c.forget_in.ensures.group, c.forget_in.ensures.directory) known;
       room = rw (c.forget_in.ensures.directory) c.loop-index.invariant.room;
-      noted = c.forget_in.ensures.noted;
-      end = c.forget_in.ensures.end ∙ c.loop-index.invariant.end;
+      noted = c.forget_in.ensures.noted first c.loop-index.invariant.noted;
       heads = c.forget_in.ensures.heads first c.loop-index.invariant.heads (λ place guest stood. c.requires.apart at place group guest was stood);
-      head_end = c.forget_in.ensures.head_end ∙ c.loop-index.invariant.head_end;
+      end = c.forget_in.ensures.end ∙ c.loop-index.invariant.end;
     }
 
 pub returns-clause-items : goal.returns-clause-items

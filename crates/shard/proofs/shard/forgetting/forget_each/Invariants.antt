@@ -1,9 +1,8 @@
 use Rattle.std.proofs.Common.{◌≡◌}
 use Rattle.groups.specs.Dead.{without_dead}
 use Rattle.groups.specs.Directory.{KnowsGuests}
-use Rattle.shard.specs.GuestNotes.{KnowsNotes}
 use Rattle.shard.specs.HeadWindow.{end_of}
-use Rattle.shard.specs.Heads.{KnowsHeads}
+use Rattle.shard.specs.Heads.{KnowsHeads, KnowsNoHeads}
 use Rattle.shard.proofs.ChangedBelow.{changed_below}
 use Rattle.shard.proofs.shard.forgetting.forget_each.Given as goal
 
@@ -13,8 +12,7 @@ invariant-loop-index l = record {
   capacity : l.groups.room ≡ l.fn.groups.room;
   known : KnowsGuests l.groups.items l.directory.entries;
   room : l.directory.room ≡ l.fn.directory.room;
-  noted : KnowsNotes l.number l.directory.entries l.notes;
-  end : end_of l.notes ≡ end_of l.fn.notes;
+  noted : KnowsNoHeads l.number l.fn.groups.items l.directory.entries l.heads;
   heads : KnowsHeads l.number l.fn.groups.items l.heads;
-  head_end : end_of l.heads ≡ end_of l.fn.heads;
+  end : end_of l.heads ≡ end_of l.fn.heads;
 }

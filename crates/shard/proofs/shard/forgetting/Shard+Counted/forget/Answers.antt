@@ -14,8 +14,7 @@ use Rattle.shard.proofs.ClassesHere.{HaveRoom-map}
 use Rattle.shard.proofs.LeastLive.{IsLeast-without_dead}
 use Rattle.groups.proofs.KnownLeast.{KnowsLeast-map}
 use Rattle.shard.specs.Least.{IsLeast}
-use Rattle.shard.proofs.Forgotten.{KnowsHeads-without_dead}
-use Rattle.shard.proofs.NotedGuests.{AreNoted-forgotten}
+use Rattle.shard.proofs.Forgotten.{KnowsHeads-without_dead, KnowsNoHeads-without_dead}
 use Rattle.shard.proofs.Forgotten.{HasGuestRoom-without_dead, HasRooms-without_dead, IsSound-without_dead, guests_once, no_head-guest}
 use Rattle.shard.proofs.shard.forgetting.Shard+Counted.forget.Goals as goal
 
@@ -23,7 +22,7 @@ pub forget_all-requires-clause-once : goal.forget_all-requires-clause-once
 forget_all-requires-clause-once c = guests_once c.self.inside.groups.items c.self.invariant.sound.once
 
 pub forget_all-requires-clause-noted : goal.forget_all-requires-clause-noted
-forget_all-requires-clause-noted c = c.self.invariant.guests_noted.known
+forget_all-requires-clause-noted c = c.self.invariant.others_known
 
 pub forget_all-requires-clause-heads : goal.forget_all-requires-clause-heads
 forget_all-requires-clause-heads c = c.self.invariant.heads_known
@@ -56,8 +55,10 @@ invariant_of-self c =
       guests_known = c.forget_all.ensures.known;
       room_for_entries = rw c.forget_all.ensures.room c.self.invariant.room_for_entries;
       heads_known = rw (c.forget_all.ensures.items) (KnowsHeads-without_dead c.self.inside.number c.self.inside.groups.items c.forget_all.new.heads c.forget_all.ensures.heads);
-      room_for_heads = λ some. let enough = c.self.invariant.room_for_heads some in omega (arith, enough, c.forget_all.ensures.head_end);
-      guests_noted = AreNoted-forgotten _ _ _ _ _ _ c.self.invariant.guests_noted _ c.forget_all.new.notes c.forget_all.ensures.noted c.forget_all.ensures.end;
+      room_for_heads = λ some. let enough = c.self.invariant.room_for_heads some in omega (arith, enough, c.forget_all.ensures.end);
+      others_known = rw (c.forget_all.ensures.items)
+          (KnowsNoHeads-without_dead c.self.inside.number c.self.inside.groups.items c.forget_all.new.directory.entries c.forget_all.new.heads c.forget_all.ensures.noted);
+      room_for_notes = λ head named. let enough = c.self.invariant.room_for_notes head named in omega (arith, enough, c.forget_all.ensures.end);
       least_known = rw c.forget_all.ensures.items (KnowsLeast-map IsLeast c.self.inside.groups.items c.self.inside.least.items c.self.invariant.least_known (without_dead {Closed = _}) IsLeast-without_dead);
       room_for_bytes = omega (arith, many, c.self.invariant.room_for_bytes);
     }

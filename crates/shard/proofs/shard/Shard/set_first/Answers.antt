@@ -1,6 +1,0 @@
-use Rattle.std.proofs.Common.{refl}
-use Rattle.shard.proofs.shard.Shard.set_first.Goals as goal
-
--- a head stands at place 0 of its group
-pub set_at-requires : goal.set_at-requires
-set_at-requires g c = (c.requires.0, c.requires.0.head, record { group_is = c.requires.1.here; span_is = refl; id_is = c.requires.1.head_is })
