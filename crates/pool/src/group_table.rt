@@ -363,11 +363,7 @@ fn gather_some<L: Log>(
 }
 
 // Moves the page of the group at the place.
-fn renew_at<L: Log>(
-    row: &mut Vec<Pooled<L>>,
-    alloc: Global,
-    place: usize,
-) -> Result<(), AllocError>
+fn renew_at<L: Log>(row: &mut Vec<Pooled<L>>, alloc: Global, place: usize) -> Result<(), AllocError>
     requires { place < length row.old.items }
     ensures items { row.new.items ≡ row.old.items }
     ensures capacity { vec_capacity row.new ≡ vec_capacity row.old }

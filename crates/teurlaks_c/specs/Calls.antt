@@ -159,7 +159,7 @@ Nexts old raw says new = (after found : Option Key) × MatchOption after (IsNoKe
 -- the first live key of the span at a slot from this one on, in the map that the core shows;
 -- nothing changes
 pub record NextsKeyIn (old : Option Held) (id : SpanId) (from : ℕ) (found : Option Key)
-  (new : Option Held) : Type 0 where
+    (new : Option Held) : Type 0 where
   pub held : Held
   pub is : old ≡ Some held
   pub same : new ≡ old
@@ -282,7 +282,7 @@ SaysGathered says (Err refusal) = (says.status ≡ refusal_status refusal) × (s
 -- the pages of the shard's groups from this one on, up to so many, have moved, or some of them, or
 -- none; nothing else has changed
 pub record Gathers (old : Option Held) (shard from most : ℕ) (says : GatherReply)
-  (new : Option Held) : Type 0 where
+    (new : Option Held) : Type 0 where
   pub before : Held
   pub answer : Result ℕ Refusal
   pub before_is : old ≡ Some before

@@ -286,11 +286,7 @@ pub extern "C" fn teurlaks_next(handle: &mut Handle, after: RawKey) -> NextReply
 /// [`Core::first_in_span`] answers it. `NONE` says that no such key is live, as of numbers that no
 /// span has. Nothing changes.
 #[unsafe(no_mangle)]
-pub extern "C" fn teurlaks_next_in_span(
-    handle: &mut Handle,
-    span: RawSpan,
-    slot: u32,
-) -> NextReply
+pub extern "C" fn teurlaks_next_in_span(handle: &mut Handle, span: RawSpan, slot: u32) -> NextReply
     ensures live { IsSome handle.old.held
         → NextsInSpan handle.old.held span slot result handle.new.held }
     ensures none { handle.old.held ≡ None → (result.status ≡ no_core) × (handle.new.held ≡ None) }

@@ -53,11 +53,7 @@ impl<L: Log> Core<L> {
 }
 
 // Moves the pages of up to `most` groups of the shard, from its group `from` on, the first first.
-fn gather_some<L: Log>(
-    shard: &mut Shard<L>,
-    from: usize,
-    most: usize,
-) -> Result<usize, AllocError>
+fn gather_some<L: Log>(shard: &mut Shard<L>, from: usize, most: usize) -> Result<usize, AllocError>
     ensures same { shard.new ≡ shard.old }
     ensures count { IfOk result (λ count. count ≡ min most (length shard.old.groups - from)) }
 {
