@@ -201,7 +201,10 @@ fn small_pages_are_gathered_in_parts() -> Result<(), Refused> {
         assert_eq!(store.pages(), before.0 - gone.0);
         assert_eq!(shared.pages(), before.1 - gone.1);
         for (n, &(key, of_shared)) in keys.iter().enumerate() {
-            assert_eq!((store.get(key), shared.get(of_shared)), (value(n), value(n)));
+            assert_eq!(
+                (store.get(key), shared.get(of_shared)),
+                (value(n), value(n))
+            );
         }
     }
     Ok(())

@@ -140,9 +140,9 @@ impl<T> Arena<T> {
     /// many these are: fewer than `GATHERED` if there are no more.
     fn gather_some(&mut self, from: usize) -> Result<usize, Refused> {
         // SAFETY: as in `Arena::mark`.
-        let gathered = self.standing()?.call(|share| unsafe {
-            raw::teurlaks_steward_gather(share, from, GATHERED)
-        });
+        let gathered = self
+            .standing()?
+            .call(|share| unsafe { raw::teurlaks_steward_gather(share, from, GATHERED) });
         done(gathered.status).map(|()| gathered.count)
     }
 

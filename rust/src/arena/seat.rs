@@ -663,9 +663,10 @@ impl<T> Seat<T> {
         let mut from = 0;
         loop {
             // SAFETY: as in `insert_here`.
-            let raw::GatherReply { status, count } = self.ask_seat(lane, Place::Here, |handle| {
-                unsafe { raw::teurlaks_seat_gather(handle, from, GATHERED) }
-            });
+            let raw::GatherReply { status, count } =
+                self.ask_seat(lane, Place::Here, |handle| unsafe {
+                    raw::teurlaks_seat_gather(handle, from, GATHERED)
+                });
             done(status)?;
             if count < GATHERED {
                 return Ok(());

@@ -55,8 +55,10 @@ impl Core {
             self.end_gathering();
             self.gathering.went = self.pages();
         }
-        let gone = self.compact_full()?;
-        let done = gone.map_or_else(|| self.compact_folding(usize::MAX).map(|done| done.pages), Ok);
+        let done = match self.compact_full()? {
+            Some(gone) => Ok(gone),
+            None => self.compact_folding(usize::MAX).map(|done| done.pages),
+        };
         if done.is_err() {
             self.give_up_compaction();
         }
