@@ -60,6 +60,23 @@ impl Turn {
         self.at(shard)
     }
 
+    /// The turn of the shard before it, of so many, that can do something. What a shard opened comes
+    /// behind all that is in a shard before it, so that no other group there moves up.
+    pub(crate) fn before(self, shards: u32) -> Turn {
+        let mut shard = self.shard;
+        for _ in 0..shards {
+            shard = if shard > 0 && shard < shards {
+                shard - 1
+            } else {
+                shards.saturating_sub(1)
+            };
+            if self.can(shard) {
+                break;
+            }
+        }
+        self.at(shard)
+    }
+
     /// The turn of the next but one of so many shards, which passes the odd ones over at first.
     pub(crate) fn next_but_one(self, shards: u32) -> Turn {
         let next = self.shard.saturating_add(2);

@@ -131,7 +131,7 @@ impl Work {
             Reply::Refused(Refusal::NothingToAdopt) => true,
             _ => {
                 let turn = self.turn.without_this();
-                self.turn = turn.next(shards);
+                self.turn = turn.before(shards);
                 turn.is_over(shards)
             }
         }
