@@ -145,12 +145,18 @@ static void if_it_pays(void) {
     teurlaks_drop(&core);
 }
 
-/* One compaction with an allocation failing; whether one did. */
-static int failing_after(long allocations) {
+/* One compaction with an allocation failing, if it pays or in parts; whether one did. */
+static int failing_after(long allocations, int if_it_pays) {
     struct teurlaks_handle core = {0};
     fill(&core, 2);
     before_failure = allocations;
     has_failed = 0;
+    if (if_it_pays) {
+        struct teurlaks_compact_reply first = teurlaks_compact_if_pays(&core, 50);
+        WANT((first.status == TEURLAKS_OK && !first.more) ||
+             (first.status == TEURLAKS_OUT_OF_MEMORY && first.more && has_failed));
+        look(&core);
+    }
     compact(&core, 40);
     before_failure = -1;
     WANT(teurlaks_totals(&core).pages < PAGES / 3);
@@ -170,8 +176,10 @@ int main(void) {
     by_steps();
     plans_of_a_caller();
     if_it_pays();
-    long runs = 0;
-    while (failing_after(runs)) runs++;
+    long runs = 0, of_parts = 0;
+    while (failing_after(runs, 1)) runs++;
+    while (failing_after(of_parts, 0)) of_parts++;
+    runs += of_parts;
     printf("cores were compacted, and with each of %ld allocations failing in turn\n", runs);
     return 0;
 }
