@@ -8,8 +8,8 @@ ghost use Rattle.shard.specs.Shown.{shown};
 ghost use Rattle.shard.specs.Sound.{IsSound};
 
 use super::Shard;
-use crate::error::PutError;
 use crate::class_rooms::WORDS;
+use crate::error::PutError;
 use crate::group::{Group, Placed, make_room};
 use crate::group_row::GroupRow;
 use crate::least_live::{add_byte, note_before, reserve_bytes};
@@ -75,7 +75,8 @@ impl<L: Log> Shard<L> {
             number % WORDS,
             self.slot_limit,
             words,
-        )? else {
+        )?
+        else {
             return self.put_otherwise(class, words);
         };
         // A word that is full now leaves the set at once, by what is known of it in registers and

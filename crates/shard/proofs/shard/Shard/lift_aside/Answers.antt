@@ -1,4 +1,4 @@
-use Rattle.std.proofs.Common.{◌≡◌, ◌≤◌, ◌+◌, ◌∙◌, ℕ, List, None, ap, arith, inl, length, length-set, refl, set, slice_get, subst, sym}
+use Rattle.std.proofs.Common.{◌≡◌, ◌≤◌, ◌+◌, ◌*◌, ◌∙◌, ℕ, List, None, ap, arith, inl, length, length-set, refl, set, slice_get, subst, sym}
 use Rattle.std.specs.Prelude.{filter, remove, vec_len}
 use Rattle.groups.specs.Directory.{DirectoryState}
 use Rattle.groups.specs.Group.{HasNoHead, IsHeadOf}
@@ -81,14 +81,14 @@ invariant_of-self-2 g c =
       sound = rw (place_now g c) (IsSound-left (state_of c.self.inside) c.self.invariant.sound c.in-Some.index group here c.class.result);
       rooms = λ class. rw (place_now g c)
           (HasRooms-full class c.self.inside.groups.items (rooms_of c.self.inside.rooms class) (c.self.invariant.rooms class) c.in-Some.index place group here
-          c.class.ensures (λ none. inl refl));
+          c.class.ensures (λ word none. inl refl));
       room_for_groups = subst (λ (n : ℕ). n + c.self.inside.group_room ≤ c.self.inside.groups.room) (sym many) c.self.invariant.room_for_groups;
       room_for_rooms = rw (place_now g c)
           (subst (λ (n : ℕ). HaveRoom (set c.self.inside.groups.items c.in-Some.index place) c.self.inside.rooms (n + c.self.inside.group_room))
           (sym (length-set c.self.inside.groups.items c.in-Some.index place))
           (HaveRoom-set c.self.inside.groups.items c.self.inside.rooms _ c.self.invariant.room_for_rooms c.in-Some.index group place here c.class.ensures
           c.self.inside.rooms (length c.self.inside.groups.items + c.self.inside.group_room) (omega arith) (λ class. omega arith)));
-      room_for_class = λ some class. subst (λ (n : ℕ). n + c.self.inside.group_room ≤ room_of c.self.inside.rooms class) (sym many) (c.self.invariant.room_for_class some class);
+      room_for_class = λ some class. subst (λ (n : ℕ). 4 * (n + c.self.inside.group_room) ≤ room_of c.self.inside.rooms class) (sym many) (c.self.invariant.room_for_class some class);
       no_guests = c.self.invariant.no_guests;
       room_for_guests = HasGuestRoom-none _ _ _;
       guests_known = rw (place_now g c, c.strike_all.ensures, c.guests.ensures, c.into_parts-spans.ensures.spans, c.replace.ensures.value)

@@ -31,5 +31,5 @@ invariant_of-self g c =
     IsKept-replaced c.self.inside c.self.invariant _ c.self.inside.rooms c.self.inside.least (omega arith) c.args.index group group (here g c) (HaveSameIds-same (spans_of group)) refl
     (ap (set c.self.inside.groups.items c.args.index) c.renew.ensures) refl
     (IsSound-alike (state_of c.self.inside) (set c.self.inside.groups.items c.args.index group) (ap (map_list bare) (same g c)) (subst AreSoundGroups (sym (same g c)) c.self.invariant.sound.groups) c.self.invariant.sound)
-    (λ class. HasRooms-full class c.self.inside.groups.items (rooms_of c.self.inside.rooms class) (c.self.invariant.rooms class) c.args.index group group (here g c) refl (λ none. none))
+    (λ class. HasRooms-full class c.self.inside.groups.items (rooms_of c.self.inside.rooms class) (c.self.invariant.rooms class) c.args.index group group (here g c) refl (λ word none. none))
     (λ class. omega arith) (KnowsLeast-set IsLeast c.self.inside.groups.items c.self.inside.least.items c.self.invariant.least_known c.args.index group group (here g c) (λ least is. is))
