@@ -1,4 +1,4 @@
-use Rattle.std.proofs.Common.{◌∙◌, ◌++◌, ◌∷◌, [], List, Some, ap, arith, length, map, refl, subst, sym, take, take_all, filter}
+use Rattle.std.proofs.Common.{◌∙◌, ◌++◌, ◌∷◌, [], List, Some, ap, arith, get_or, length, map, refl, subst, sym, take, take_all, filter}
 use Rattle.std.proofs.lemmas.Option.{slice_get-get_or, slice_get_read}
 use Rattle.groups.specs.Group.{summary}
 use Rattle.groups.proofs.Lists.{there_at}
@@ -31,13 +31,13 @@ loop-index-preserved g c =
     ]
 
 -- its byte says that too many slots are live
-pub loop-index-preserved-then-from-bound : goal.loop-index-preserved-then-from-bound
-loop-index-preserved-then-from-bound g c =
+pub loop-index-preserved-then-least_of-bound : goal.loop-index-preserved-then-least_of-bound
+loop-index-preserved-then-least_of-bound g c =
     let groups = c.args.groups.now in
     let index = c.loop-index.index in
     let (group, here) = there_at groups index (omega (arith, c.loop-index-test.true)) in
-    let byte = slice_get-get_or c.args.least.now index 0 (omega (arith, c.loop-index-test.true, c.requires.bytes)) ∙ ap Some (sym c.from.ensures) in
-    AreParted-passed groups index group here c.args.bound c.loop-index.list.items (omega (arith, c.requires.known index c.from.result group byte here, c.if-from-bound.true))
+    let byte = slice_get-get_or c.args.least.now index 0 (omega (arith, c.loop-index-test.true, c.requires.bytes)) in
+    AreParted-passed groups index group here c.args.bound c.loop-index.list.items (omega (arith, c.requires.known index (get_or c.args.least.now index 0) group byte here, c.least_of.ensures, c.if-least_of-bound.true))
     c.loop-index.invariant
 
 pub returns : goal.returns
