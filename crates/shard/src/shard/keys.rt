@@ -297,8 +297,7 @@ impl<L: Log> Shard<L> {
         }
     }
 
-    // The same, by no note: a guest goes by the directory, and any other span is found by halving. Past all
-    // groups where it stands nowhere.
+    // The same, by no note: a guest goes by the directory, and any other span is found by halving.
     #[inline(always)]
     fn search(&self, id: SpanId) -> (usize, usize)
         ensures elsewhere { length self.now.groups ≤ result.0 → IsElsewhere self.now.groups id }
