@@ -60,8 +60,8 @@ impl Turn {
         self.at(shard)
     }
 
-    /// The turn of the shard before it, of so many, that can do something. What a shard opened comes
-    /// behind all that is in a shard before it, so that no other group there moves up.
+    /// The turn of the shard before it, of so many, that can do something. What a shard opened is
+    /// behind all that a shard before it opened, so that no other group there moves up.
     pub(crate) fn before(self, shards: u32) -> Turn {
         let mut shard = self.shard;
         for _ in 0..shards {
