@@ -4,8 +4,8 @@ use Rattle.shard.specs.State.{ShardState}
 use Rattle.shard.proofs.NotedGuests.{IsElsewhere-away}
 use Rattle.shard.proofs.shard.Shard.is_away.Goals as goal
 
-pub returns-then-eq : goal.returns-then-eq
-returns-then-eq g c is =
+pub returns-then-id-self : goal.returns-then-id-self
+returns-then-id-self g c is =
     let away = c.tells_away.ensures is in
     let limit = c.self.invariant.sound.limit in
     subst (λ (s : ShardState). IsElsewhere s.groups c.args.id) c.self.view_is
