@@ -1,6 +1,6 @@
 -- What a shard keeps beside its groups, where one of them is replaced, or none.
 use Rattle.std.proofs.Common.{◌≡◌, ◌+◌, ◌<◌, ◌≤◌, ℕ, List, length, length-set, Some, set, slice_get, ◌∙◌, ap, arith, rules}
-use Rattle.std.specs.Prelude.{map as map_list, vec_capacity, vec_len}
+use Rattle.std.specs.Prelude.{map as map_list, vec_len}
 use Rattle.std.proofs.lemmas.List.{length-map}
 use Rattle.std.specs.Global.{Vec}
 use Rattle.bitmap.specs.Numbers.{NumbersState}
@@ -8,8 +8,8 @@ use Rattle.span.specs.declared.class.Class.{Class}
 use Rattle.groups.specs.Sound.{AreSoundGroups}
 use Rattle.groups.proofs.KnownGuests.{KnowsGuests-replaced}
 use Rattle.groups.proofs.ReplacedGroups.{AreAlike, head-alike}
-use Rattle.groups.specs.Directory.{DirectoryState}
 use Rattle.shard.specs.Group.{GroupState}
+use Rattle.shard.specs.Guests.{GuestsState, KeepsGuests, KeepsRoom}
 use Rattle.shard.specs.HeadWindow.{HeadWindow, end_of, note_in}
 use Rattle.shard.specs.Kept.{IsKept, state_of}
 use Rattle.shard.specs.Least.{KnowsLeast}
@@ -42,7 +42,6 @@ module _ {L : Type 0} (s : Inside L) (kept : IsKept s) (groups : RowState) (room
     room_for_rooms = HaveRoom-same s.groups.items s.rooms (length s.groups.items + s.group_room) kept.room_for_rooms groups.items same rooms _
         (omega (arith, ap length same)) more;
     room_for_class = λ some class. omega (arith, kept.room_for_class some class, more class, ap length same);
-    no_guests = kept.no_guests;
     room_for_guests = rw same kept.room_for_guests;
     guests_known = rw same kept.guests_known;
     room_for_entries = kept.room_for_entries;
@@ -72,13 +71,12 @@ module _ {L : Type 0} (s : Inside L) (kept : IsKept s) (groups : RowState) (room
         (HaveRoom-set s.groups.items s.rooms (length s.groups.items + s.group_room) kept.room_for_rooms index group now here class_is rooms _
         (omega (arith, length-set s.groups.items index now)) more);
     room_for_class = λ some class. omega (arith, kept.room_for_class some class, more class, ap length same ∙ length-set s.groups.items index now);
-    no_guests = kept.no_guests;
-    room_for_guests = rw same (HasGuestRoom-replaced s.groups.items s.onto s.span_room (vec_capacity s.guest_room) kept.room_for_guests index group now here ids);
-    guests_known = rw same (KnowsGuests-replaced s.groups.items s.directory.entries kept.guests_known index group now here ids);
+    room_for_guests = rw same (HasGuestRoom-replaced s.groups.items s.guests.onto s.guests.span_room s.guests.list_room kept.room_for_guests index group now here ids);
+    guests_known = rw same (KnowsGuests-replaced s.groups.items s.guests.directory.entries kept.guests_known index group now here ids);
     room_for_entries = kept.room_for_entries;
     heads_known = rw same (KnowsHeads-set s.number s.groups.items s.heads kept.heads_known index group now here (head-alike group now ids));
     room_for_heads = kept.room_for_heads;
-    others_known = rw same (KnowsNoHeads-set s.number s.groups.items s.directory.entries s.heads kept.others_known index group now here (head-alike group now ids));
+    others_known = rw same (KnowsNoHeads-set s.number s.groups.items s.guests.directory.entries s.heads kept.others_known index group now here (head-alike group now ids));
     room_for_notes = kept.room_for_notes;
     least_known = rw same known;
     room_for_bytes = omega (arith, kept.room_for_bytes, bytes, ap length same ∙ length-set s.groups.items index now);
@@ -101,13 +99,12 @@ module _ {L : Type 0} (s : Inside L) (kept : IsKept s) (groups : RowState) (room
         room_for_rooms = rw is
             (HaveRoom-map s.groups.items s.rooms (length s.groups.items + s.group_room) kept.room_for_rooms f class_is rooms _ (omega (arith, length-map s.groups.items f)) more);
         room_for_class = λ some class. omega (arith, kept.room_for_class some class, more class, many);
-        no_guests = kept.no_guests;
-        room_for_guests = HasGuestRoom-alike (state_of s) groups.items same s.onto s.span_room (vec_capacity s.guest_room) kept.room_for_guests;
-        guests_known = KnowsGuests-alike s.groups.items s.directory.entries kept.guests_known groups.items same;
+        room_for_guests = HasGuestRoom-alike (state_of s) groups.items same s.guests.onto s.guests.span_room s.guests.list_room kept.room_for_guests;
+        guests_known = KnowsGuests-alike s.groups.items s.guests.directory.entries kept.guests_known groups.items same;
         room_for_entries = kept.room_for_entries;
         heads_known = KnowsHeads-alike s.number s.groups.items groups.items s.heads same kept.heads_known;
         room_for_heads = kept.room_for_heads;
-        others_known = KnowsNoHeads-alike s.number s.groups.items s.directory.entries s.heads kept.others_known groups.items same;
+        others_known = KnowsNoHeads-alike s.number s.groups.items s.guests.directory.entries s.heads kept.others_known groups.items same;
         room_for_notes = kept.room_for_notes;
         least_known = known;
         room_for_bytes = omega (arith, kept.room_for_bytes, bytes, many);
@@ -129,19 +126,35 @@ IsKept-more_heads s kept heads base same more = record {
   room_for_groups = kept.room_for_groups;
   room_for_rooms = kept.room_for_rooms;
   room_for_class = kept.room_for_class;
-  no_guests = kept.no_guests;
   room_for_guests = kept.room_for_guests;
   guests_known = kept.guests_known;
   room_for_entries = kept.room_for_entries;
   heads_known = KnowsHeads-more s.number s.groups.items s.heads kept.heads_known heads base same more;
   room_for_heads = λ some. let enough = kept.room_for_heads some in omega (arith, enough, more);
-  others_known = KnowsNoHeads-more s.number s.groups.items s.directory.entries s.heads kept.others_known heads base same;
+  others_known = KnowsNoHeads-more s.number s.groups.items s.guests.directory.entries s.heads kept.others_known heads base same;
   room_for_notes = λ head named. let enough = kept.room_for_notes head named in omega (arith, enough, more);
   least_known = kept.least_known;
   room_for_bytes = kept.room_for_bytes;
 }
 
--- the directory has the same entries and more room
-pub IsKept-room : {L : Type 0} (s : Inside L) → IsKept s → (directory : DirectoryState) → directory.entries ≡ s.directory.entries
-    → s.directory.room ≤ directory.room → IsKept (record s { directory = directory })
-IsKept-room s kept directory same room = search (rules)
+-- of the same guests no less is known, and the room for more is as it was
+pub IsKept-guests : {L : Type 0} (s : Inside L) → IsKept s → (guests : GuestsState) → KeepsGuests s.guests guests → KeepsRoom s.guests guests → IsKept (record s { guests = guests })
+IsKept-guests s kept guests keeps room = record {
+  number_fits = kept.number_fits;
+  pages_fit = kept.pages_fit;
+  gens_fit = kept.gens_fit;
+  sound = rw (room.onto, room.span_room) kept.sound;
+  rooms = kept.rooms;
+  room_for_groups = kept.room_for_groups;
+  room_for_rooms = kept.room_for_rooms;
+  room_for_class = kept.room_for_class;
+  room_for_guests = rw (room.onto, room.span_room, room.list_room) kept.room_for_guests;
+  guests_known = rw keeps.entries kept.guests_known;
+  room_for_entries = omega (arith, kept.room_for_entries, room.span_room, keeps.room);
+  heads_known = kept.heads_known;
+  room_for_heads = kept.room_for_heads;
+  others_known = rw keeps.entries kept.others_known;
+  room_for_notes = rw room.onto kept.room_for_notes;
+  least_known = kept.least_known;
+  room_for_bytes = kept.room_for_bytes;
+}

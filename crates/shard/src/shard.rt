@@ -14,10 +14,10 @@ use crate::class_rooms::ClassRooms;
 use crate::error::Config;
 use crate::group_row::GroupRow;
 use crate::head_indexes::HeadIndexes;
+use crate::late_guests::LateGuests;
 use bitmap::SLOTS;
-use groups::Directory;
 use span::names::{Entry, MOST_PAGES, MOST_SHARDS, MOST_SPANS, SpanId};
-use span::spans::{Kept, Log, Span};
+use span::spans::{Kept, Log};
 use std::alloc::{AllocError, Global};
 use std::marker::Model;
 
@@ -63,7 +63,8 @@ pub enum Freed {
 ///
 /// It keeps that it is sound, that a word whose number is not in `rooms` has no usable slot, and
 /// that a group of which the set of a class has a number is of that class. `heads` says of the last
-/// spans that it opened where they are.
+/// spans that it opened where they are, and `guests` of guests where they stand, and has room for
+/// more.
 #[derive(Drop)]
 pub struct Shard<L: Log = Kept> {
     alloc: Global,
@@ -78,14 +79,9 @@ pub struct Shard<L: Log = Kept> {
     groups: GroupRow<L>,
     rooms: ClassRooms,
     heads: HeadIndexes,
-    directory: Directory,
-    // For how many more groups of its own room is reserved, and for how many more spans.
+    guests: LateGuests<L>,
+    // For how many more groups of its own room is reserved.
     group_room: usize,
-    span_room: usize,
-    onto: Option<SpanId>,
-    // An empty list with room for the guests of the group `onto` and those for which room is
-    // reserved.
-    guest_room: Vec<Span<L>>,
     // For each group a byte: 0, or how many of its slots are live at the least, if it is open.
     least: Vec<u8>,
 }
@@ -179,11 +175,8 @@ impl<L: Log> Shard<L> {
             groups: GroupRow::new(alloc),
             rooms: ClassRooms::new(alloc),
             heads: HeadIndexes::new(alloc),
-            directory: Directory::new(alloc),
+            guests: LateGuests::new(),
             group_room: 0,
-            span_room: 0,
-            onto: None,
-            guest_room: Vec::new(alloc),
             least: Vec::new(alloc),
         })
     }

@@ -1,6 +1,7 @@
 // Guests that can never be live again, which a shard forgets.
 ghost use Rattle.std.specs.Prelude.{◌≡◌, ◌+◌, ◌≤◌, List, length, map as map_list};
 ghost use Rattle.span.specs.declared.key.Key.{Key};
+ghost use Rattle.shard.specs.Guests.{KeepsRoom};
 ghost use Rattle.shard.specs.HeadWindow.{end_of};
 ghost use Rattle.shard.specs.Heads.{HasNotesFor, KnowsHeads, KnowsNoHeads};
 ghost use Rattle.groups.specs.Dead.{AreEntered, dead_among, forgotten, live_among, without_dead};
@@ -16,7 +17,7 @@ use super::Shard;
 use crate::group::Group;
 use crate::group_row::GroupRow;
 use crate::head_indexes::HeadIndexes;
-use groups::Directory;
+use crate::late_guests::LateGuests;
 use span::spans::Counted;
 
 impl Shard<Counted> {
@@ -33,7 +34,7 @@ impl Shard<Counted> {
         let before = self.span_count();
         forget_all(
             &mut self.groups,
-            &mut self.directory,
+            &mut self.guests,
             &mut self.heads,
             self.number,
             self.group_room,
@@ -47,27 +48,28 @@ impl Shard<Counted> {
 // are here and for those that room is reserved for.
 fn forget_all(
     groups: &mut GroupRow<Counted>,
-    directory: &mut Directory,
+    guests: &mut LateGuests<Counted>,
     heads: &mut HeadIndexes,
     number: u32,
     room: usize,
 )
     requires room { length groups.old.items + room ≤ groups.old.room }
-    requires known { KnowsGuests groups.old.items directory.old.entries }
+    requires known { KnowsGuests groups.old.items guests.old.directory.entries }
     requires ascend { Ascend groups.old.items }
-    requires noted { KnowsNoHeads number groups.old.items directory.old.entries heads.old }
+    requires noted { KnowsNoHeads number groups.old.items guests.old.directory.entries heads.old }
     requires heads { KnowsHeads number groups.old.items heads.old }
     requires apart { GuestsAreNoHeads groups.old.items }
     requires once { HaveGuestsOnce groups.old.items }
     ensures items { groups.new.items ≡ map_list without_dead groups.old.items }
     ensures capacity { length groups.new.items + room ≤ groups.new.room }
-    ensures known { KnowsGuests groups.new.items directory.new.entries }
-    ensures room { directory.new.room ≡ directory.old.room }
-    ensures noted { KnowsNoHeads number groups.old.items directory.new.entries heads.new }
+    ensures known { KnowsGuests groups.new.items guests.new.directory.entries }
+    ensures room { guests.new.directory.room ≡ guests.old.directory.room }
+    ensures spans { KeepsRoom guests.old guests.new }
+    ensures noted { KnowsNoHeads number groups.old.items guests.new.directory.entries heads.new }
     ensures heads { KnowsHeads number groups.old.items heads.new }
     ensures end { end_of heads.new ≡ end_of heads.old }
 {
-    forget_each(groups, directory, heads, number);
+    forget_each(groups, guests, heads, number);
     give_back(groups, room);
 }
 
@@ -87,26 +89,27 @@ fn give_back(groups: &mut GroupRow<Counted>, room: usize)
 // Has each of the groups forget its guests in which no slot is live.
 fn forget_each(
     groups: &mut GroupRow<Counted>,
-    directory: &mut Directory,
+    guests: &mut LateGuests<Counted>,
     heads: &mut HeadIndexes,
     number: u32,
 )
-    requires known { KnowsGuests groups.old.items directory.old.entries }
+    requires known { KnowsGuests groups.old.items guests.old.directory.entries }
     requires ascend { Ascend groups.old.items }
-    requires noted { KnowsNoHeads number groups.old.items directory.old.entries heads.old }
+    requires noted { KnowsNoHeads number groups.old.items guests.old.directory.entries heads.old }
     requires heads { KnowsHeads number groups.old.items heads.old }
     requires apart { GuestsAreNoHeads groups.old.items }
     requires once { HaveGuestsOnce groups.old.items }
     ensures items { groups.new.items ≡ map_list without_dead groups.old.items }
     ensures capacity { groups.new.room ≡ groups.old.room }
-    ensures known { KnowsGuests groups.new.items directory.new.entries }
-    ensures room { directory.new.room ≡ directory.old.room }
-    ensures noted { KnowsNoHeads number groups.old.items directory.new.entries heads.new }
+    ensures known { KnowsGuests groups.new.items guests.new.directory.entries }
+    ensures room { guests.new.directory.room ≡ guests.old.directory.room }
+    ensures spans { KeepsRoom guests.old guests.new }
+    ensures noted { KnowsNoHeads number groups.old.items guests.new.directory.entries heads.new }
     ensures heads { KnowsHeads number groups.old.items heads.new }
     ensures end { end_of heads.new ≡ end_of heads.old }
 {
     for index in 0..groups.len() {
-        forget_in(&mut groups[index], directory, heads, number);
+        forget_in(&mut groups[index], guests, heads, number);
     }
 }
 
@@ -114,27 +117,27 @@ fn forget_each(
 // they stand then.
 fn forget_in(
     group: &mut Group<Counted>,
-    directory: &mut Directory,
+    guests: &mut LateGuests<Counted>,
     heads: &mut HeadIndexes,
     number: u32,
 )
-    requires entered { AreEntered (struck directory.old.entries (dead_among group.old.guests))
-        (live_among group.old.guests) }
+    requires entered { AreEntered (struck guests.old.directory.entries
+        (dead_among group.old.guests)) (live_among group.old.guests) }
     requires fit { HasNotesFor number heads.old 0 (live_among group.old.guests) }
     ensures group { group.new ≡ without_dead group.old }
-    ensures directory { directory.new
-        ≡ with_entries directory.old (forgotten directory.old.entries group.old) }
-    ensures noted { (groups : List GroupState)
-        → KnowsNoHeads number groups directory.old.entries heads.old
-        → KnowsNoHeads number groups directory.new.entries heads.new }
+    ensures directory { guests.new.directory ≡ with_entries guests.old.directory
+        (forgotten guests.old.directory.entries group.old) }
+    ensures spans { KeepsRoom guests.old guests.new }
+    ensures noted { (all : List GroupState) → KnowsNoHeads number all guests.old.directory.entries
+        heads.old → KnowsNoHeads number all guests.new.directory.entries heads.new }
     ensures heads { (groups : List GroupState) → KnowsHeads number groups heads.old
         → AreNoHeads groups group.old.guests → KnowsHeads number groups heads.new }
     ensures base { heads.new.base ≡ heads.old.base }
     ensures end { end_of heads.new ≡ end_of heads.old }
 {
-    directory.strike_dead(group.spans().guests());
+    guests.strike_dead(group.spans().guests());
     heads.strike_dead_guests(number, group.spans().guests());
     group.forget_guests();
-    directory.move_all(group.spans().guests(), group.head_id());
+    guests.move_all(group.spans().guests(), group.head_id());
     heads.note_guests(number, 0, group.spans().guests(), group.head_id());
 }

@@ -304,7 +304,7 @@ impl<L: Log> Shard<L> {
         ensures here { result.0 < length self.now.groups
             → StandsAt self.now.groups id result.0 result.1 }
     {
-        if let Some(at) = self.directory.place_of(id) {
+        if let Some(at) = self.guests.place_of(id) {
             return match self.find_head(at.head) {
                 Some(index) => (index, at.place),
                 None => self.nowhere(),

@@ -36,9 +36,8 @@ impl<L: Log> Shard<L> {
         let place = Group::left_by(self.alloc, group.head_id(), group.class(), self.gens);
         let (spans, page) = replace(group, place).into_parts();
         clear_byte(&mut self.least, index);
-        self.directory.strike_all(spans.guests());
+        self.guests.depart(spans.guests());
         self.heads.strike_guests(self.number, spans.guests());
-        self.onto = None;
         Some(Whole::new(spans, page))
     }
 

@@ -182,7 +182,7 @@ impl<L: Log> Shard<L> {
             .note_arrival(self.number, id, index, self.groups.len());
         self.group_room = self.group_room.saturating_sub(1);
         self.opened += 1;
-        self.onto = None;
+        self.guests.leave_onto();
         Ok(key)
     }
 }

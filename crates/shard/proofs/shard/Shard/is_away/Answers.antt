@@ -9,5 +9,5 @@ returns-then-id-self g c is =
     let away = c.tells_away.ensures is in
     let limit = c.self.invariant.sound.limit in
     subst (λ (s : ShardState). IsElsewhere s.groups c.args.id) c.self.view_is
-    (IsElsewhere-away c.self.inside.number c.self.inside.groups.items c.self.inside.directory.entries c.self.inside.heads (omega (arith, limit, c.self.invariant.pages_fit))
+    (IsElsewhere-away c.self.inside.number c.self.inside.groups.items c.self.inside.guests.directory.entries c.self.inside.heads (omega (arith, limit, c.self.invariant.pages_fit))
     c.self.invariant.heads_known c.self.invariant.guests_known c.self.invariant.others_known c.args.id (omega arith, away.0) away.1)

@@ -1,9 +1,10 @@
-use Rattle.std.proofs.Common.{◌≡◌, ◌≤◌, ◌+◌, ◌*◌, ◌∙◌, ℕ, List, None, ap, arith, inl, length, length-set, refl, set, slice_get, subst, sym}
+use Rattle.std.proofs.Common.{◌≡◌, ◌≤◌, ◌+◌, ◌*◌, ◌∙◌, ℕ, List, None, Option, ap, arith, inl, length, length-set, refl, set, slice_get, subst, sym}
 use Rattle.std.specs.Prelude.{filter, remove, vec_len}
 use Rattle.groups.specs.Directory.{DirectoryState}
 use Rattle.groups.specs.Group.{HasNoHead, IsHeadOf}
 use Rattle.groups.proofs.Lists.{set-same}
 use Rattle.std.proofs.lemmas.Option.{slice_get_within}
+use Rattle.span.specs.declared.id.SpanId.{SpanId}
 use Rattle.shard.specs.Group.{GroupState}
 use Rattle.shard.specs.Kept.{state_of}
 use Rattle.shard.specs.Leaving.{has_stayed, left_place, swept}
@@ -78,7 +79,7 @@ invariant_of-self-2 g c =
       number_fits = c.self.invariant.number_fits;
       pages_fit = c.self.invariant.pages_fit;
       gens_fit = c.self.invariant.gens_fit;
-      sound = rw (place_now g c) (IsSound-left (state_of c.self.inside) c.self.invariant.sound c.in-Some.index group here c.class.result);
+      sound = rw (place_now g c, c.depart.ensures.onto, c.depart.ensures.span_room) (IsSound-left (state_of c.self.inside) c.self.invariant.sound c.in-Some.index group here c.class.result);
       rooms = λ class. rw (place_now g c)
           (HasRooms-full class c.self.inside.groups.items (rooms_of c.self.inside.rooms class) (c.self.invariant.rooms class) c.in-Some.index place group here
           c.class.ensures (λ word none. inl refl));
@@ -89,11 +90,10 @@ invariant_of-self-2 g c =
           (HaveRoom-set c.self.inside.groups.items c.self.inside.rooms _ c.self.invariant.room_for_rooms c.in-Some.index group place here c.class.ensures
           c.self.inside.rooms (length c.self.inside.groups.items + c.self.inside.group_room) (omega arith) (λ class. omega arith)));
       room_for_class = λ some class. subst (λ (n : ℕ). 4 * (n + c.self.inside.group_room) ≤ room_of c.self.inside.rooms class) (sym many) (c.self.invariant.room_for_class some class);
-      no_guests = c.self.invariant.no_guests;
-      room_for_guests = HasGuestRoom-none _ _ _;
-      guests_known = rw (place_now g c, c.strike_all.ensures, c.guests.ensures, c.into_parts-spans.ensures.spans, c.replace.ensures.value)
-          (KnowsGuests-left (state_of c.self.inside) c.self.invariant.sound c.in-Some.index group here c.class.result c.self.inside.directory.entries c.self.invariant.guests_known);
-      room_for_entries = omega (arith, c.self.invariant.room_for_entries, ap (λ (d : DirectoryState). d.room) c.strike_all.ensures);
+      room_for_guests = rw c.depart.ensures.onto (HasGuestRoom-none _ _ _);
+      guests_known = rw (place_now g c, c.depart.ensures.directory, c.guests.ensures, c.into_parts-spans.ensures.spans, c.replace.ensures.value)
+          (KnowsGuests-left (state_of c.self.inside) c.self.invariant.sound c.in-Some.index group here c.class.result c.self.inside.guests.directory.entries c.self.invariant.guests_known);
+      room_for_entries = omega (arith, c.self.invariant.room_for_entries, c.depart.ensures.span_room, ap (λ (d : DirectoryState). d.room) c.depart.ensures.directory);
       heads_known = rw (place_now g c)
           (KnowsHeads-set c.self.inside.number c.self.inside.groups.items c.strike_guests.new.self
           (c.strike_guests.ensures.heads c.self.inside.groups.items c.self.invariant.heads_known
@@ -102,12 +102,12 @@ invariant_of-self-2 g c =
           c.in-Some.index group place here refl);
       room_for_heads = λ some. let enough = c.self.invariant.room_for_heads some in omega (arith, enough, c.strike_guests.ensures.end);
       others_known = rw (place_now g c)
-          (KnowsNoHeads-set c.self.inside.number c.self.inside.groups.items c.strike_all.new.self.entries c.strike_guests.new.self
-          (KnowsNoHeads-struck c.self.inside.number c.self.inside.groups.items c.self.inside.directory.entries c.strike_all.new.self.entries c.strike_guests.new.self _ _
-          (c.strike_guests.ensures.known c.self.inside.groups.items c.self.inside.directory.entries c.self.invariant.others_known)
-          (c.guests-2.ensures ∙ sym c.guests.ensures) (ap (λ (d : DirectoryState). d.entries) c.strike_all.ensures))
+          (KnowsNoHeads-set c.self.inside.number c.self.inside.groups.items c.depart.new.self.directory.entries c.strike_guests.new.self
+          (KnowsNoHeads-struck c.self.inside.number c.self.inside.groups.items c.self.inside.guests.directory.entries c.depart.new.self.directory.entries c.strike_guests.new.self _ _
+          (c.strike_guests.ensures.known c.self.inside.groups.items c.self.inside.guests.directory.entries c.self.invariant.others_known)
+          (c.guests-2.ensures ∙ sym c.guests.ensures) (ap (λ (d : DirectoryState). d.entries) c.depart.ensures.directory))
           c.in-Some.index group place here refl);
-      room_for_notes = λ head named. absurd cc;
+      room_for_notes = λ head named. absurd (let none = sym c.depart.ensures.onto ∙ named in cc);
       least_known = c.clear_byte.ensures.known c.self.inside.groups.items c.replace.new.dest c.self.invariant.least_known;
       room_for_bytes = subst (λ (n : ℕ). n + c.self.inside.group_room ≤ vec_len c.clear_byte.new.least) (sym many) (omega (arith, c.self.invariant.room_for_bytes, c.clear_byte.ensures.len));
     }
@@ -121,7 +121,17 @@ returns-clause-lifts g c =
       group,
       subst (λ (s : ShardState). IsHeadOf (filter has_stayed s.groups) c.args.head left.0 group) c.self.view_is left.1,
       c.new.ensures ∙ rw (c.into_parts-spans.ensures.spans, c.into_parts-spans.ensures.page, c.replace.ensures.value) refl,
-      ap (λ (place : GroupState). record (state_of c.self.inside) { onto = None; groups = filter has_stayed (set c.self.inside.groups.items c.in-Some.index place) }) (place_now g c)
+      ap (λ (onto : Option SpanId). record (state_of c.self.inside) {
+            onto = onto;
+            span_room = c.depart.new.self.span_room;
+            groups = filter has_stayed (set c.self.inside.groups.items c.in-Some.index c.replace.new.dest);
+          }) c.depart.ensures.onto
+          ∙ ap (λ (room : ℕ). record (state_of c.self.inside) {
+            onto = None;
+            span_room = room;
+            groups = filter has_stayed (set c.self.inside.groups.items c.in-Some.index c.replace.new.dest);
+          }) c.depart.ensures.span_room
+          ∙ ap (λ (place : GroupState). record (state_of c.self.inside) { onto = None; groups = filter has_stayed (set c.self.inside.groups.items c.in-Some.index place) }) (place_now g c)
           ∙ ap (λ (groups : List GroupState). record (state_of c.self.inside) { onto = None; groups = groups }) left.2
           ∙ ap (λ (s : ShardState). record s { onto = None; groups = remove (filter has_stayed s.groups) left.0 }) c.self.view_is,
     )

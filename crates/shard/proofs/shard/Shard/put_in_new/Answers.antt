@@ -49,51 +49,51 @@ invariant_of-self g c = IsKept-same c.self.inside c.self.invariant c.reserve_gro
 pub lower_heads-index-requires : goal.lower_heads-index-requires
 lower_heads-index-requires g c = rw c.in_ok-reserve_group.ensures.items c.self.invariant.sound.ascending
 
-head_now : (g : _) (c : goal.After-self-3-1 g) → c.put_at.new.self ≡ with_put (new_span c.in-Some.id c.args.class c.self.inside.gens) 0 c.args.words.now
+head_now : (g : _) (c : goal.After-leave_onto g) → c.put_at.new.self ≡ with_put (new_span c.in-Some.id c.args.class c.self.inside.gens) 0 c.args.words.now
 head_now g c = c.in_ok-key.ensures.ok ∙ ap (λ (s : SpanState). with_put s 0 c.args.words.now) c.with_log-head.ensures
 
-abbrev made : (g : _) → goal.After-self-3-1 g → GroupState
+abbrev made : (g : _) → goal.After-leave_onto g → GroupState
 made g c = new_group c.in-Some.id c.args.class c.self.inside.gens c.args.words.now
 
-group_now : (g : _) (c : goal.After-self-3-1 g) → c.of-2.result ≡ made g c
+group_now : (g : _) (c : goal.After-leave_onto g) → c.of-2.result ≡ made g c
 group_now g c =
     c.of-2.ensures
     ∙ rw (c.of.ensures, c.new-2.ensures, (c.in_ok-page.ensures {u = tt}).words)
     (ap (λ (head : SpanState). group_of (record { head = head; guests = [] }) (Some (set_object blank_page c.args.class 0 c.args.words.now)) false)
     (head_now g c))
 
-list_is : (g : _) (c : goal.After-self-3-1 g) → c.reserve_group.new.groups.items ≡ c.self.inside.groups.items
+list_is : (g : _) (c : goal.After-leave_onto g) → c.reserve_group.new.groups.items ≡ c.self.inside.groups.items
 list_is g c = c.in_ok-reserve_group.ensures.items
 
-groups_now : (g : _) (c : goal.After-self-3-1 g) → c.insert_reserved.new.self.items ≡ insert c.self.inside.groups.items c.lower_heads-index.result (made g c)
+groups_now : (g : _) (c : goal.After-leave_onto g) → c.insert_reserved.new.self.items ≡ insert c.self.inside.groups.items c.lower_heads-index.result (made g c)
 groups_now g c = c.insert_reserved.ensures.items ∙ rw (c.in_ok-reserve_group.ensures.items, group_now g c) refl
 
-lower_now : (g : _) (c : goal.After-self-3-1 g) → IsLower head_id c.self.inside.groups.items (rank c.in-Some.id) c.lower_heads-index.result
+lower_now : (g : _) (c : goal.After-leave_onto g) → IsLower head_id c.self.inside.groups.items (rank c.in-Some.id) c.lower_heads-index.result
 lower_now g c =
     subst (λ (groups : List GroupState). IsLower head_id groups (rank c.in-Some.id) c.lower_heads-index.result) (list_is g c)
     (record { within = c.lower_heads-index.ensures.within; lower = c.lower_heads-index.ensures.lower; others = c.lower_heads-index.ensures.others })
 
-place_now : (g : _) (c : goal.After-self-3-1 g) → IsPlaceFor c.self.inside.groups.items c.in-Some.id c.lower_heads-index.result
+place_now : (g : _) (c : goal.After-leave_onto g) → IsPlaceFor c.self.inside.groups.items c.in-Some.id c.lower_heads-index.result
 place_now g c =
     IsPlaceFor-lower c.self.inside.groups.items c.in-Some.id c.lower_heads-index.result (lower_now g c)
     (no_head_next (state_of c.self.inside) c.self.invariant.sound c.in-Some.id c.in-Some.ensures.parts.0 c.in-Some.ensures.parts.1)
 
-below_now : (g : _) (c : goal.After-self-3-1 g) → (class : Class) (n : ℕ) → n / 4 < c.lower_heads-index.result
+below_now : (g : _) (c : goal.After-leave_onto g) → (class : Class) (n : ℕ) → n / 4 < c.lower_heads-index.result
     → contains (rooms_of c.note_arrival.new.self class) n ≡ contains (rooms_of c.self.inside.rooms class) n
 below_now g c class n less = c.note_arrival.ensures.below class n less ∙ ap (λ s. contains s n) (c.in_ok-reserve.ensures.same class)
 
-above_now : (g : _) (c : goal.After-self-3-1 g) → (class : Class) (n : ℕ) → c.lower_heads-index.result ≤ n / 4
+above_now : (g : _) (c : goal.After-leave_onto g) → (class : Class) (n : ℕ) → c.lower_heads-index.result ≤ n / 4
     → contains (rooms_of c.note_arrival.new.self class) (n + 4) ≡ contains (rooms_of c.self.inside.rooms class) n
 above_now g c class n from = c.note_arrival.ensures.above class n from ∙ ap (λ s. contains s n) (c.in_ok-reserve.ensures.same class)
 
 -- the byte of the group before it may be another
-noted : (g : _) (c : goal.After-self-3-1 g) → KnowsLeast c.self.inside.groups.items c.note_before.new.least.items
+noted : (g : _) (c : goal.After-leave_onto g) → KnowsLeast c.self.inside.groups.items c.note_before.new.least.items
 noted g c = rw (← c.in_ok-reserve_group.ensures.items)
     (c.note_before.ensures.known
     (rw c.in_ok-reserve_group.ensures.items (c.in_ok-reserve_bytes.ensures.known c.self.inside.groups.items c.self.invariant.least_known)))
 
 -- each set that had room for the groups has room for one more
-room_before : (g : _) (c : goal.After-self-3-1 g)
+room_before : (g : _) (c : goal.After-leave_onto g)
     → HaveRoom c.self.inside.groups.items c.note_arrival.new.self (length c.insert_reserved.new.self.items + c.saturating_sub-self-inside.result)
 room_before g c index group there =
     let class = group.head.class in
@@ -113,7 +113,7 @@ room_before g c index group there =
     )
 
 -- and so has that of the class
-room_here : (g : _) (c : goal.After-self-3-1 g)
+room_here : (g : _) (c : goal.After-leave_onto g)
     → 4 * (length c.insert_reserved.new.self.items + c.saturating_sub-self-inside.result) ≤ room_of c.note_arrival.new.self c.args.class
 room_here g c =
     let own = c.in_ok-reserve.ensures.ok c.args.class (omega arith) in
@@ -145,7 +145,7 @@ invariant_of-self-2 g c = record {
   number_fits = c.self.invariant.number_fits;
   pages_fit = c.self.invariant.pages_fit;
   gens_fit = c.self.invariant.gens_fit;
-  sound = rw (groups_now g c, c.saturating_sub-self-inside.ensures)
+  sound = rw (groups_now g c, c.leave_onto.ensures, c.saturating_sub-self-inside.ensures)
       (IsSound-put_in_new (state_of c.self.inside) c.self.invariant.sound c.in-Some.id c.in-Some.ensures.parts.0 c.in-Some.ensures.parts.1 c.args.class
       c.lower_heads-index.result c.args.words.now c.requires.width (place_now g c)
       (ap (λ (s : ShardState). s.ended) c.self.view_is ∙ c.requires.running)
@@ -181,12 +181,11 @@ invariant_of-self-2 g c = record {
     c.note_arrival.ensures.room class,
     c.saturating_sub-self-inside.ensures,
   );
-  no_guests = c.self.invariant.no_guests;
-  room_for_guests = HasGuestRoom-none _ _ _;
-  guests_known = rw (groups_now g c)
-      (KnowsGuests-alone c.self.inside.groups.items c.self.inside.directory.entries c.self.invariant.guests_known c.lower_heads-index.result (made g c)
+  room_for_guests = rw c.leave_onto.ensures (HasGuestRoom-none _ _ _);
+  guests_known = rw (groups_now g c, c.leave_onto.ensures)
+      (KnowsGuests-alone c.self.inside.groups.items c.self.inside.guests.directory.entries c.self.invariant.guests_known c.lower_heads-index.result (made g c)
       (place_now g c).within refl);
-  room_for_entries = c.self.invariant.room_for_entries;
+  room_for_entries = rw c.leave_onto.ensures c.self.invariant.room_for_entries;
   heads_known = rw (groups_now g c)
       (c.note_arrival-2.ensures.known c.self.inside.groups.items (made g c)
       (omega (arith, c.len-4.ensures, c.insert_reserved.ensures.len, c.in_ok-reserve_group.ensures.len)) refl
@@ -195,12 +194,12 @@ invariant_of-self-2 g c = record {
       (KnowsHeads-more c.self.inside.number c.self.inside.groups.items c.self.inside.heads c.self.invariant.heads_known c.reserve-2.new.self
       c.in_ok-reserve-2.ensures.base c.in_ok-reserve-2.ensures.same c.in_ok-reserve-2.ensures.more));
   room_for_heads = λ some. omega (arith, c.in_ok-reserve-2.ensures.ok, c.note_arrival-2.ensures.end);
-  others_known = rw (groups_now g c)
-      (KnowsNoHeads-arrived c.self.inside.number c.self.inside.groups.items c.self.inside.directory.entries c.reserve-2.new.self
-      (KnowsNoHeads-more c.self.inside.number c.self.inside.groups.items c.self.inside.directory.entries c.self.inside.heads c.self.invariant.others_known c.reserve-2.new.self
+  others_known = rw (groups_now g c, c.leave_onto.ensures)
+      (KnowsNoHeads-arrived c.self.inside.number c.self.inside.groups.items c.self.inside.guests.directory.entries c.reserve-2.new.self
+      (KnowsNoHeads-more c.self.inside.number c.self.inside.groups.items c.self.inside.guests.directory.entries c.self.inside.heads c.self.invariant.others_known c.reserve-2.new.self
       c.in_ok-reserve-2.ensures.base c.in_ok-reserve-2.ensures.same)
       c.in-Some.id c.lower_heads-index.result (made g c) (place_now g c).within refl c.note_arrival-2.new.self c.note_arrival-2.ensures.base c.note_arrival-2.ensures.guests);
-  room_for_notes = λ head named. absurd cc;
+  room_for_notes = rw c.leave_onto.ensures (λ head named. absurd cc);
   least_known = rw (groups_now g c) (c.add_byte.ensures.known c.self.inside.groups.items (made g c) (place_now g c).within (noted g c));
   room_for_bytes = omega (
     arith,
@@ -227,7 +226,7 @@ returns-clause-ok g c =
       (
         c.lower_heads-index.result,
         subst (λ (s : ShardState). IsPlaceFor s.groups c.in_ok-key.key.span c.lower_heads-index.result) now (rw span (place_now g c)),
-        rw (← now, span, groups_now g c, c.saturating_sub-self-inside.ensures) refl,
+        rw (← now, span, groups_now g c, c.leave_onto.ensures, c.saturating_sub-self-inside.ensures) refl,
       ),
     )
 

@@ -1,13 +1,11 @@
 use Rattle.std.proofs.Common.{◌≡◌, ◌∙◌, [], None, true, ap, arith, length, sym}
-use Rattle.groups.specs.Directory.{DirectoryState}
-use Rattle.groups.proofs.GuestDirectory.{IsDirectory-none}
 use Rattle.shard.specs.Kept.{state_of}
 use Rattle.shard.specs.State.{ShardState}
 use Rattle.shard.proofs.ClassesHere.{HaveRoom-none}
 use Rattle.shard.proofs.KnownHeads.{KnowsHeads-none}
 use Rattle.groups.proofs.KnownLeast.{KnowsLeast-no_bytes}
 use Rattle.shard.specs.Least.{IsLeast}
-use Rattle.shard.proofs.GuestRoom.{HasGuestRoom-none}
+use Rattle.shard.proofs.NoGuests.{bare-none}
 use Rattle.shard.proofs.NotedGuests.{KnowsNoHeads-none}
 use Rattle.shard.proofs.RoomBits.{HasRooms-empty}
 use Rattle.shard.proofs.Start.{IsSound-none}
@@ -15,12 +13,12 @@ use Rattle.shard.proofs.shard.Shard.set_ended.Goals as goal
 
 pub invariant_of-self : goal.invariant_of-self
 invariant_of-self g c =
-    let none : c.self.inside.groups.items ≡ [] = ap (λ (s : ShardState). s.groups) c.self.view_is ∙ c.requires in
+    let bare = bare-none c.new.result.items c.new.ensures.items c.new-4.result c.new-4.ensures in
     record {
       number_fits = c.self.invariant.number_fits;
       pages_fit = c.self.invariant.pages_fit;
       gens_fit = c.self.invariant.gens_fit;
-      sound = rw c.new.ensures.items (IsSound-none
+      sound = rw (c.new.ensures.items, c.new-4.ensures) (IsSound-none
           (record (state_of c.self.inside) {
             ended = true;
             group_room = 0;
@@ -31,22 +29,21 @@ invariant_of-self g c =
       room_for_groups = omega (arith, ap length c.new.ensures.items);
       room_for_rooms = HaveRoom-none c.new.result.items c.new.ensures.items c.new-2.result _;
       room_for_class = λ some. absurd (omega (arith, some));
-      no_guests = c.new-5.ensures.items;
-      room_for_guests = HasGuestRoom-none _ _ _;
-      guests_known = IsDirectory-none _ _ c.new.result.items _ c.new.ensures.items (ap (λ (d : DirectoryState). d.entries) c.new-4.ensures);
-      room_for_entries = omega arith;
+      room_for_guests = bare.room;
+      guests_known = bare.known;
+      room_for_entries = bare.entries;
       heads_known = KnowsHeads-none _ _ _ c.new.ensures.items;
       room_for_heads = λ some. absurd (omega (arith, some));
-      others_known = KnowsNoHeads-none _ _ _ _ c.new-3.ensures (ap (λ (d : DirectoryState). d.entries) c.new-4.ensures);
-      room_for_notes = λ head named. absurd cc;
-      least_known = rw c.new-6.ensures.items (KnowsLeast-no_bytes IsLeast _);
-      room_for_bytes = omega (arith, ap length c.new.ensures.items, c.new-6.result.ok.1);
+      others_known = KnowsNoHeads-none _ _ _ _ c.new-3.ensures bare.empty;
+      room_for_notes = λ head named. absurd (bare.unnamed head named);
+      least_known = rw c.new-5.ensures.items (KnowsLeast-no_bytes IsLeast _);
+      room_for_bytes = omega (arith, ap length c.new.ensures.items, c.new-5.result.ok.1);
     }
 
 pub returns-clause-ended : goal.returns-clause-ended
 returns-clause-ended g c =
     let none : c.self.inside.groups.items ≡ [] = ap (λ (s : ShardState). s.groups) c.self.view_is ∙ c.requires in
-    rw (← c.self.view_is, c.new.ensures.items) (λ i. record (state_of c.self.inside) { ended = true; groups = sym none i; group_room = 0; span_room = 0; onto = None })
+    rw (← c.self.view_is, c.new.ensures.items, c.new-4.ensures) (λ i. record (state_of c.self.inside) { ended = true; groups = sym none i; group_room = 0; span_room = 0; onto = None })
 
 pub returns-clause-sound : goal.returns-clause-sound
 returns-clause-sound g c = (invariant_of-self g c).sound

@@ -22,10 +22,10 @@ noted_end : (g : _) (c : goal.After-clear_bytes g) → end_of c.note_from.new.se
 noted_end g c = omega (arith, c.note_from.ensures.base, c.note_from.ensures.len, c.strike_heads.ensures.end)
 
 -- no head is noted before those are that have not left
-away : (g : _) (c : goal.After-clear_bytes g) → KnowsNoHeads c.self.inside.number [] c.self.inside.directory.entries c.strike_heads.new.self
+away : (g : _) (c : goal.After-clear_bytes g) → KnowsNoHeads c.self.inside.number [] c.self.inside.guests.directory.entries c.strike_heads.new.self
 away g c =
-    c.strike_heads.ensures.known c.self.inside.directory.entries
-    (no_entry-head c.self.inside.groups.items c.self.inside.directory.entries c.self.invariant.guests_known (no_head-guest c.self.inside.groups.items c.self.invariant.sound.once))
+    c.strike_heads.ensures.known c.self.inside.guests.directory.entries
+    (no_entry-head c.self.inside.groups.items c.self.inside.guests.directory.entries c.self.invariant.guests_known (no_head-guest c.self.inside.groups.items c.self.invariant.sound.once))
     c.self.invariant.others_known
 
 pub invariant_of-self : goal.invariant_of-self
@@ -43,15 +43,14 @@ invariant_of-self g c =
           (HaveRoom-swept c.self.inside.groups.items c.self.inside.rooms _ c.self.invariant.room_for_rooms c.sweep_rooms.new.rooms _
           (omega (arith, length-stayed c.self.inside.groups.items)) (λ class. omega (arith, c.sweep_rooms.ensures.room class)));
       room_for_class = λ some class. omega (arith, fewer, c.self.invariant.room_for_class some class, c.sweep_rooms.ensures.room class);
-      no_guests = c.self.invariant.no_guests;
       room_for_guests = rw c.drop_left.ensures.items
-          (HasGuestRoom-swept c.self.inside.groups.items c.self.inside.onto c.self.inside.span_room
-          (vec_capacity c.self.inside.guest_room) c.self.invariant.room_for_guests);
-      guests_known = rw c.drop_left.ensures.items (KnowsGuests-swept c.self.inside.groups.items c.self.inside.directory.entries c.self.invariant.guests_known);
+          (HasGuestRoom-swept c.self.inside.groups.items c.self.inside.guests.onto c.self.inside.guests.span_room
+          c.self.inside.guests.list_room c.self.invariant.room_for_guests);
+      guests_known = rw c.drop_left.ensures.items (KnowsGuests-swept c.self.inside.groups.items c.self.inside.guests.directory.entries c.self.invariant.guests_known);
       room_for_entries = c.self.invariant.room_for_entries;
       heads_known = c.note_from.ensures.known;
       room_for_heads = λ some. let enough = c.self.invariant.room_for_heads some in omega (arith, enough, noted_end g c);
-      others_known = c.note_from.ensures.others c.self.inside.directory.entries
+      others_known = c.note_from.ensures.others c.self.inside.guests.directory.entries
           (λ id own none. away g c id own (λ index group at. absurd (let e = at.here in cc)));
       room_for_notes = λ head named. let enough = c.self.invariant.room_for_notes head named in omega (arith, enough, noted_end g c);
       least_known = c.clear_bytes.ensures.known c.drop_left.new.self.items;

@@ -5,20 +5,21 @@ use Rattle.groups.specs.Directory.{DirectoryState, Entries, entered, struck}
 use Rattle.groups.specs.Spans.{SpansState}
 use Rattle.shard.proofs.Sparse.{before-filter}
 use Rattle.shard.specs.Group.{GroupState}
+use Rattle.shard.specs.Guests.{GuestsState}
 use Rattle.shard.specs.Heads.{IsNoted, KnowsNoHeads}
 use Rattle.shard.proofs.shard.forgetting.forget_in.Goals as goal
 
 pub returns-clause-noted : goal.returns-clause-noted
 returns-clause-noted c groups knows =
-    let entries = c.args.directory.now.entries in
+    let entries = c.args.guests.now.directory.entries in
     let dead = dead_among c.args.group.now.guests in
     let guests : c.guests-2.result.now ≡ c.args.group.now.guests = c.guests-2.ensures ∙ ap (λ (s : SpansState). s.guests) c.spans-2.ensures in
-    let left : c.strike_dead.new.self.entries ≡ struck entries dead = ap (λ (d : DirectoryState). d.entries) c.strike_dead.ensures
+    let left : c.strike_dead.new.self.directory.entries ≡ struck entries dead = ap (λ (d : DirectoryState). d.entries) c.strike_dead.ensures.directory
     ∙ ap (λ (spans : List SpanState). struck entries (dead_among spans)) (c.guests.ensures ∙ ap (λ (s : SpansState). s.guests) c.spans.ensures) in
     let live : c.guests-3.result.now ≡ c.guests-4.result.now = c.guests-3.ensures ∙ ap (λ (s : SpansState). s.guests) c.spans-3.ensures
     ∙ sym (c.guests-4.ensures ∙ ap (λ (s : SpansState). s.guests) c.spans-4.ensures) in
     let heads : c.head_id.result ≡ c.head_id-2.result = c.head_id.ensures ∙ sym c.head_id-2.ensures in
-    let after : c.move_all.new.self.entries ≡ entered (struck entries dead) c.guests-4.result.now c.head_id-2.result 1 = ap (λ (d : DirectoryState). d.entries) c.move_all.ensures
+    let after : c.move_all.new.self.directory.entries ≡ entered (struck entries dead) c.guests-4.result.now c.head_id-2.result 1 = ap (λ (late : GuestsState). late.directory.entries) c.move_all.ensures
     ∙ rw (left, live, heads) refl in
     let known = subst (λ (spans : List SpanState). KnowsNoHeads c.args.number groups (struck entries (dead_among spans)) c.strike_dead_guests.new.self) guests
     (c.strike_dead_guests.ensures.known groups entries knows) in

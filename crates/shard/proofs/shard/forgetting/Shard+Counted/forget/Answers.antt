@@ -1,5 +1,5 @@
 use Rattle.std.proofs.Common.{◌≡◌, ◌∙◌, List, ap, arith, length, refl, sym}
-use Rattle.std.specs.Prelude.{◌+◌, ◌-◌, map as map_list, vec_capacity}
+use Rattle.std.specs.Prelude.{◌+◌, ◌-◌, map as map_list}
 use Rattle.std.proofs.lemmas.List.{length-map}
 use Rattle.groups.specs.Dead.{dead_guests, without_dead}
 use Rattle.groups.specs.Group.{spans_in}
@@ -30,8 +30,8 @@ forget_all-requires-clause-heads c = c.self.invariant.heads_known
 pub forget_all-requires-clause-apart : goal.forget_all-requires-clause-apart
 forget_all-requires-clause-apart c = no_head-guest c.self.inside.groups.items c.self.invariant.sound.once
 
-sound_after : (c : goal.After-forget_all) → IsSound (record (state_of c.self.inside) { groups = c.forget_all.new.groups.items })
-sound_after c = rw c.forget_all.ensures.items (IsSound-without_dead (state_of c.self.inside) c.self.invariant.sound)
+sound_after : (c : goal.After-forget_all) → IsSound (record (state_of c.self.inside) { groups = c.forget_all.new.groups.items; span_room = c.forget_all.new.guests.span_room; onto = c.forget_all.new.guests.onto })
+sound_after c = rw (c.forget_all.ensures.items, c.forget_all.ensures.spans.onto, c.forget_all.ensures.spans.span_room) (IsSound-without_dead (state_of c.self.inside) c.self.invariant.sound)
 
 pub invariant_of-self : goal.invariant_of-self
 invariant_of-self c =
@@ -48,17 +48,16 @@ invariant_of-self c =
           (HaveRoom-map c.self.inside.groups.items c.self.inside.rooms _ c.self.invariant.room_for_rooms (without_dead {Closed = _}) (λ group. refl) c.self.inside.rooms _
           (omega (arith, length-map c.self.inside.groups.items (without_dead {Closed = _}))) (λ class. omega arith));
       room_for_class = λ some class. omega (arith, many, c.self.invariant.room_for_class some class);
-      no_guests = c.self.invariant.no_guests;
-      room_for_guests = rw c.forget_all.ensures.items
-          (HasGuestRoom-without_dead c.self.inside.groups.items c.self.inside.onto c.self.inside.span_room
-          (vec_capacity c.self.inside.guest_room) c.self.invariant.room_for_guests);
+      room_for_guests = rw (c.forget_all.ensures.items, c.forget_all.ensures.spans.onto, c.forget_all.ensures.spans.span_room, c.forget_all.ensures.spans.list_room)
+          (HasGuestRoom-without_dead c.self.inside.groups.items c.self.inside.guests.onto c.self.inside.guests.span_room
+          c.self.inside.guests.list_room c.self.invariant.room_for_guests);
       guests_known = c.forget_all.ensures.known;
-      room_for_entries = rw c.forget_all.ensures.room c.self.invariant.room_for_entries;
+      room_for_entries = rw (c.forget_all.ensures.room, c.forget_all.ensures.spans.span_room) c.self.invariant.room_for_entries;
       heads_known = rw (c.forget_all.ensures.items) (KnowsHeads-without_dead c.self.inside.number c.self.inside.groups.items c.forget_all.new.heads c.forget_all.ensures.heads);
       room_for_heads = λ some. let enough = c.self.invariant.room_for_heads some in omega (arith, enough, c.forget_all.ensures.end);
       others_known = rw (c.forget_all.ensures.items)
-          (KnowsNoHeads-without_dead c.self.inside.number c.self.inside.groups.items c.forget_all.new.directory.entries c.forget_all.new.heads c.forget_all.ensures.noted);
-      room_for_notes = λ head named. let enough = c.self.invariant.room_for_notes head named in omega (arith, enough, c.forget_all.ensures.end);
+          (KnowsNoHeads-without_dead c.self.inside.number c.self.inside.groups.items c.forget_all.new.guests.directory.entries c.forget_all.new.heads c.forget_all.ensures.noted);
+      room_for_notes = rw c.forget_all.ensures.spans.onto (λ head named. let enough = c.self.invariant.room_for_notes head named in omega (arith, enough, c.forget_all.ensures.end));
       least_known = rw c.forget_all.ensures.items (KnowsLeast-map IsLeast c.self.inside.groups.items c.self.inside.least.items c.self.invariant.least_known (without_dead {Closed = _}) IsLeast-without_dead);
       room_for_bytes = omega (arith, many, c.self.invariant.room_for_bytes);
     }
@@ -77,7 +76,7 @@ overflow_sub-result c = omega (arith, counts c)
 
 pub returns-clause-forgets : goal.returns-clause-forgets
 returns-clause-forgets c = record {
-  after = rw (← c.self.view_is, c.forget_all.ensures.items) refl;
+  after = rw (← c.self.view_is, c.forget_all.ensures.items, c.forget_all.ensures.spans.onto, c.forget_all.ensures.spans.span_room) refl;
   count_is =
       let gone : c.span_count-before.result - c.span_count.result ≡ length (dead_guests c.self.inside.groups.items) = omega (arith, counts c) in
       gone ∙ ap (λ (s : ShardState). length (dead_guests s.groups)) c.self.view_is;
@@ -90,4 +89,5 @@ returns-clause-value c key =
     (value_of-without_dead c.self.inside.groups.items key c.self.invariant.sound.groups now.groups c.self.invariant.sound.once now.once)
 
 pub returns-clause-sound : goal.returns-clause-sound
-returns-clause-sound c = rw c.forget_all.ensures.items (IsSound-without_dead (state_of c.self.inside) c.self.invariant.sound)
+returns-clause-sound c =
+    rw (c.forget_all.ensures.items, c.forget_all.ensures.spans.onto, c.forget_all.ensures.spans.span_room) (IsSound-without_dead (state_of c.self.inside) c.self.invariant.sound)
