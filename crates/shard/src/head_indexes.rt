@@ -18,6 +18,8 @@ use std::marker::Model;
 
 /// How many entries are kept where there are few groups.
 pub const FEWEST: usize = 64;
+// Up to so many entries no more room is taken than these need.
+const FEW: usize = 4;
 /// How many serials of heads the entry of a guest tells apart. Indexes of groups are below.
 pub const HEADS: u32 = 4_194_304;
 /// Up to which place, which is left out, the entry of a guest has its place.
@@ -449,6 +451,9 @@ fn grow(indexes: &mut Vec<u32>, count: usize) -> Result<(), AllocError>
 {
     if count <= indexes.len() {
         return Ok(());
+    }
+    if count <= FEW {
+        indexes.reserve_exact(count - indexes.len())?;
     }
     indexes.resize(count, AWAY)
 }
