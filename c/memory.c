@@ -270,7 +270,7 @@ static void core_forgets(void) {
     WANT(forgotten.status == TEURLAKS_OK && forgotten.count == MANY - STAY && bytes < before);
     forgotten = teurlaks_forget(&many);
     WANT(forgotten.status == TEURLAKS_OK && forgotten.count == 0);
-    WANT(bytes <= before - 200 * (MANY - STAY));
+    WANT(bytes <= before - 190 * (MANY - STAY));
     free_firsts(&many, 0, STAY);
     forgotten = teurlaks_forget(&many);
     WANT(forgotten.status == TEURLAKS_OK && forgotten.count == STAY);
@@ -296,7 +296,7 @@ static void little(void) {
     QUIETLY(teurlaks_retire(&many, 63, 1).status == TEURLAKS_OK);
     QUIETLY(teurlaks_begin(&many, 63) == TEURLAKS_RUNNING);
     WANT(teurlaks_put(&many, 0, (struct teurlaks_word){1, 2}).status == TEURLAKS_OK);
-    WANT(bytes - before <= SMALL + 708);
+    WANT(bytes - before <= SMALL + 600);
     before = bytes;
     WANT(teurlaks_gather(&many, 0, 0, 9).count == 1 && bytes == before);
     WANT(teurlaks_gather(&many, 0, 1, 9).count == 0 && teurlaks_gather(&many, 0, 0, 0).count == 0);
