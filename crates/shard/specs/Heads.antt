@@ -84,6 +84,11 @@ abbrev pub NotesFollow : ℕ → (old new : HeadWindow) → (Entries → Entries
 NotesFollow number old new change = (groups : List GroupState) (entries : Entries)
     → KnowsNoHeads number groups entries old → KnowsNoHeads number groups (change entries) new
 
+-- notes of spans that are no heads of these groups stay true
+abbrev pub OthersStay : ℕ → List GroupState → (old new : HeadWindow) → Type 0
+OthersStay number groups old new = (entries : Entries)
+    → KnowsNoHeads number groups entries old → KnowsNoHeads number groups entries new
+
 -- there is an entry for each of the guests from the place on that the shard of this number opened
 abbrev pub HasNotesFor : ℕ → HeadWindow → ℕ → List SpanState → Type 0
 HasNotesFor number window first guests = (place : ℕ) (guest : SpanState)

@@ -7,7 +7,7 @@ ghost use Rattle.groups.specs.Group.{AreNoHeadsFrom, HasNoHead};
 ghost use Rattle.span.specs.Ids.{rank};
 ghost use Rattle.shard.specs.Group.{GroupState};
 ghost use Rattle.shard.specs.HeadWindow.{HeadWindow, KeepsNote, end_of, entry_of, most_entries, note_in};
-ghost use Rattle.shard.specs.Heads.{AreReady, HasNoHeadsOf, HasNotesFor, IsNoted, IsOther, KnowsArrival, KnowsHeads, KnowsNoHeads, LeadsTo, MakesPlace, NotesFollow, lowered, note_at, raised};
+ghost use Rattle.shard.specs.Heads.{AreReady, HasNoHeadsOf, HasNotesFor, IsNoted, IsOther, KnowsArrival, KnowsHeads, KnowsNoHeads, LeadsTo, MakesPlace, NotesFollow, OthersStay, lowered, note_at, raised};
 ghost use Rattle.span.specs.declared.limits.TheConstants.{MOST_PAGES};
 
 use crate::group_row::GroupRow;
@@ -281,9 +281,8 @@ impl HeadIndexes {
 
     /// Notes that the heads of all groups are away. It takes no memory.
     pub fn strike_heads<L: Log>(&mut self, number: u32, groups: &GroupRow<L>)
-        ensures known { (entries : Entries) → HasNoHeadsOf entries groups.now.items
-            → KnowsNoHeads number groups.now.items entries self.old
-            → KnowsNoHeads number [] entries self.new }
+        ensures known { (entries : Entries) → HasNoHeadsOf entries groups.now.items → KnowsNoHeads
+            number groups.now.items entries self.old → KnowsNoHeads number [] entries self.new }
         ensures base { self.new.base ≡ self.old.base }
         ensures end { end_of self.new ≡ end_of self.old }
     {
@@ -470,10 +469,8 @@ fn note_heads<L: Log>(
         (record { base = base; entries = indexes.old.items }) from }
     ensures known { KnowsHeads number groups.now.items
         (record { base = base; entries = indexes.new.items }) }
-    ensures others { (entries : Entries) → KnowsNoHeads number groups.now.items entries
-        (record { base = base; entries = indexes.old.items })
-        → KnowsNoHeads number groups.now.items entries
-        (record { base = base; entries = indexes.new.items }) }
+    ensures others { OthersStay number groups.now.items (record { base = base;
+        entries = indexes.old.items }) (record { base = base; entries = indexes.new.items }) }
     ensures len { length indexes.new.items ≡ length indexes.old.items }
 {
     for index in from..groups.len() {
