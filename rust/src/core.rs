@@ -89,8 +89,6 @@ pub struct Core {
     // answers `NO_CORE`, counts nothing, and drops nothing.
     handle: raw::Handle,
     limits: Limits,
-    // How many generations a slot may have before its last one.
-    earlier: u32,
     // How many words the least object has that was put.
     least_words: u8,
     // Whose plan is open.
@@ -100,14 +98,15 @@ pub struct Core {
     order: Order,
     // How many pages could have gone, by their counts, after the last compaction: fewer than 2^26.
     stay: u32,
+    // How many pages went in calls of a compaction that were refused, and were not counted yet:
+    // fewer than 2^26.
+    gone: u32,
     // How many keys are live: a put makes one live, and a free takes one away, as each tells.
     live: usize,
     // A bit for each shard that has ended.
     ended: u64,
     // A bit for each shard of which a trim has left groups without a page since such were given up.
     emptied: u64,
-    // How many pages went in calls of a compaction that were refused, and were not counted yet.
-    gone: usize,
     gathering: Gathering,
 }
 
@@ -145,7 +144,6 @@ impl Core {
                 at: ptr::null_mut(),
             },
             limits,
-            earlier: limits.generations - 1,
             least_words: MOST_WORDS as u8,
             plan: Plan::None,
             pool: false,
@@ -265,7 +263,7 @@ impl Core {
     fn plain_key(&mut self, put: raw::PutReply, len: usize) -> Option<Key> {
         // No key has generation 0, which is passed over here too.
         let is_plain = put.status == raw::OK
-            && put.key.generation.wrapping_sub(1) < self.earlier
+            && put.key.generation.wrapping_sub(1) < self.limits.generations - 1
             && len >= self.least_words.into();
         self.count_plain(put, is_plain)
     }
@@ -274,7 +272,7 @@ impl Core {
     #[allow(clippy::inline_always)]
     #[inline(always)]
     fn plain_key_of_least(&mut self, put: raw::PutReply) -> Option<Key> {
-        let is_plain = put.status == raw::OK && put.key.generation.wrapping_sub(1) < self.earlier;
+        let is_plain = put.status == raw::OK && put.key.generation.wrapping_sub(1) < self.limits.generations - 1;
         self.count_plain(put, is_plain)
     }
 

@@ -53,7 +53,7 @@ impl Core {
         if self.is_gathering() {
             // All of it comes again behind the folds.
             self.end_gathering();
-            self.gathering.went = self.pages();
+            self.gathering.count(self.pages());
         }
         let done = match self.compact_full()? {
             Some(gone) => Ok(gone),
@@ -77,13 +77,13 @@ impl Core {
         if self.plan != Plan::None || !self.pool_is_empty() {
             return Ok(None);
         }
-        self.gone += self.trim_all();
+        self.gone += self.trim_all() as u32;
         if self.occupancy().most_folds() > 0 {
             return Ok(None);
         }
         self.forget()?;
         self.stay = 0;
-        Ok(Some(std::mem::take(&mut self.gone)))
+        Ok(Some(std::mem::take(&mut self.gone) as usize))
     }
 
     /// [Compacts](Core::compact) if at least so many percent of the pages could go, and says how
@@ -134,7 +134,7 @@ impl Core {
         if !pages.pays(least_percent, self.stay as usize) {
             return Some(trimmed);
         }
-        self.gone += trimmed;
+        self.gone += trimmed as u32;
         None
     }
 
@@ -209,8 +209,8 @@ impl Core {
             more,
             pages,
         } = unsafe { raw::teurlaks_compact_within(&mut self.handle, budget) };
-        self.gone += pages;
-        self.gathering.went += pages;
+        self.gone += pages as u32;
+        self.gathering.count(pages);
         self.counted(done(status).map(|()| more == 1))
     }
 
@@ -233,7 +233,7 @@ impl Core {
         let mut more = true;
         while more && *left > 0 {
             let advanced = self.advance(budget.min(*left), budget)?;
-            self.gone += usize::from(advanced.folded.is_some());
+            self.gone += u32::from(advanced.folded.is_some());
             *left -= advanced.cost;
             more = advanced.more;
             if is_enough() {
@@ -283,7 +283,7 @@ impl Core {
         before: usize,
         more: Result<bool, Refused>,
     ) -> Result<Compacted, Refused> {
-        self.gone += before - self.pages();
+        self.gone += (before - self.pages()) as u32;
         self.counted(more)
     }
 
@@ -293,7 +293,7 @@ impl Core {
         if !more {
             self.end_compaction();
         }
-        let pages = std::mem::take(&mut self.gone);
+        let pages = std::mem::take(&mut self.gone) as usize;
         Ok(Compacted { pages, more })
     }
 

@@ -10,12 +10,27 @@ use crate::refused::Refused;
 const PAYS: usize = 16;
 
 /// What of a core's small pages is to be brought together.
-#[derive(Clone, Copy, Default)]
-pub(super) struct Gathering {
-    /// How many pages went since pages were brought together.
-    pub went: usize,
-    /// The shard and the group that come next, if a gathering is under way.
-    next: Option<(u32, usize)>,
+#[derive(Clone, Copy)]
+pub(super) enum Gathering {
+    /// Nothing is under way, and so many pages went since pages were brought together.
+    Waiting { went: u32 },
+    /// The shard and the group that come next.
+    UnderWay { shard: u8, group: u32 },
+}
+
+impl Gathering {
+    /// Counts pages that went, unless a gathering is under way.
+    pub fn count(&mut self, pages: usize) {
+        if let Gathering::Waiting { went } = self {
+            *went = went.saturating_add(pages as u32);
+        }
+    }
+}
+
+impl Default for Gathering {
+    fn default() -> Gathering {
+        Gathering::Waiting { went: 0 }
+    }
 }
 
 impl Core {
@@ -47,51 +62,53 @@ impl Core {
     /// Begins to bring pages together that share pages of the system, if inserts take so few slots
     /// that there are such, and if so many pages went that it pays.
     pub(super) fn begin_gathering(&mut self) {
-        let went = self.gathering.went;
+        let Gathering::Waiting { went } = self.gathering else {
+            return;
+        };
         let has_small = self.limits.slots < Limits::default().slots;
-        if has_small && went > 0 && went.saturating_mul(PAYS) >= self.pages() {
-            self.gathering = Gathering {
-                went: 0,
-                next: Some((0, 0)),
-            };
+        if has_small && went > 0 && (went as usize).saturating_mul(PAYS) >= self.pages() {
+            self.gathering = Gathering::UnderWay { shard: 0, group: 0 };
         }
     }
 
     /// Whether a gathering is under way, behind a compaction that is done.
     pub(super) fn is_gathering(&self) -> bool {
-        self.plan == Plan::None && self.gathering.next.is_some()
+        self.plan == Plan::None && matches!(self.gathering, Gathering::UnderWay { .. })
     }
 
     /// Ends a gathering where it is: the other pages stay where they are.
     pub(super) fn end_gathering(&mut self) {
-        self.gathering.next = None;
+        self.gathering = Gathering::default();
     }
 
     /// Takes up to so many pages further, at least one. If memory is refused, it ends there.
     pub(super) fn gather_within(&mut self, budget: usize) -> Compacted {
         let mut left = budget.max(1);
-        while let (Some((shard, from)), 1..) = (self.gathering.next, left) {
-            self.gathering.next = match self.gather_some(shard, from, left) {
+        while let (Gathering::UnderWay { shard, group }, 1..) = (self.gathering, left) {
+            self.gathering = match self.gather_some(shard.into(), group as usize, left) {
                 Ok(count) => {
                     let is_at_end = count < left;
                     left -= count;
-                    self.behind(shard, from + count, is_at_end)
+                    self.behind(shard, group + count as u32, is_at_end)
                 }
-                Err(_) => None,
+                Err(_) => Gathering::default(),
             };
         }
         Compacted {
             pages: 0,
-            more: self.gathering.next.is_some(),
+            more: matches!(self.gathering, Gathering::UnderWay { .. }),
         }
     }
 
     /// What comes next where the gathering has come to this group of the shard.
-    fn behind(&self, shard: u32, group: usize, is_at_end: bool) -> Option<(u32, usize)> {
+    fn behind(&self, shard: u8, group: u32, is_at_end: bool) -> Gathering {
         match is_at_end {
-            false => Some((shard, group)),
-            true if shard + 1 < self.limits.shards => Some((shard + 1, 0)),
-            true => None,
+            false => Gathering::UnderWay { shard, group },
+            true if u32::from(shard) + 1 < self.limits.shards => Gathering::UnderWay {
+                shard: shard + 1,
+                group: 0,
+            },
+            true => Gathering::default(),
         }
     }
 }

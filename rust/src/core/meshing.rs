@@ -172,7 +172,7 @@ impl Core {
             unsafe { raw::teurlaks_trim(&mut self.handle, shard) };
         done(status)?;
         self.emptied |= u64::from(count > 0) << shard;
-        self.gathering.went += count;
+        self.gathering.count(count);
         Ok(count)
     }
 
