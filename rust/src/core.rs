@@ -272,7 +272,8 @@ impl Core {
     #[allow(clippy::inline_always)]
     #[inline(always)]
     fn plain_key_of_least(&mut self, put: raw::PutReply) -> Option<Key> {
-        let is_plain = put.status == raw::OK && put.key.generation.wrapping_sub(1) < self.limits.generations - 1;
+        let is_plain = put.status == raw::OK
+            && put.key.generation.wrapping_sub(1) < self.limits.generations - 1;
         self.count_plain(put, is_plain)
     }
 
