@@ -224,6 +224,11 @@ impl Core {
         budget: usize,
         is_enough: impl Fn() -> bool,
     ) -> Result<Compacted, Refused> {
+        if self.is_gathering() {
+            let pages = budget.min(*left);
+            *left -= pages;
+            return Ok(self.gather_within(pages));
+        }
         if self.plan != Plan::Compaction {
             // A forgetting, the trims, and one that finds that there is no such shard.
             let steps = self.limits.shards as usize + 2;
@@ -234,13 +239,19 @@ impl Core {
         while more && *left > 0 {
             let advanced = self.advance(budget.min(*left), budget)?;
             self.gone += u32::from(advanced.folded.is_some());
+            self.gathering.count(advanced.folded.is_some().into());
             *left -= advanced.cost;
             more = advanced.more;
             if is_enough() {
                 break;
             }
         }
-        self.counted(Ok(more))
+        let mut done = self.counted(Ok(more))?;
+        if !done.more {
+            self.begin_gathering();
+            done.more = self.is_gathering();
+        }
+        Ok(done)
     }
 
     /// Begins a part of a compaction.
