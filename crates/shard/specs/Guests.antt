@@ -1,9 +1,10 @@
 -- What a shard keeps for guests and folds. No public clause cites this module.
-use Rattle.std.specs.Prelude.{◌≡◌, ℕ, ◌≤◌, Option, None, refl}
+use Rattle.std.specs.Prelude.{◌≡◌, ℕ, ◌≤◌, List, Option, None, refl}
 use Rattle.std.specs.Coded.{Coded, code_by, coded×, coded_ℕ}
 use Rattle.std.specs.FinMap as map
 use Rattle.span.specs.declared.id.SpanId.{SpanId}
-use Rattle.groups.specs.Directory.{DirectoryState, directory_code, directory_of}
+use Rattle.span.specs.State.{SpanState}
+use Rattle.groups.specs.Directory.{DirectoryState, directory_code, directory_of, entered, with_entries}
 use Rattle.groups.specs.declared.directory.Place.{Place}
 
 -- where guests stand; for how many more spans room is reserved, for the guests of which group, and
@@ -33,6 +34,12 @@ no_guests = record {
   span_room = 0;
   onto = None;
   list_room = 0;
+}
+
+-- the guests, each of which has an entry, are those of the head, in this order
+abbrev pub with_moved : GuestsState → List SpanState → SpanId → GuestsState
+with_moved guests moved head = record guests {
+  directory = with_entries guests.directory (entered guests.directory.entries moved head 1);
 }
 
 -- the directory has the same entries and no less room

@@ -9,6 +9,10 @@ pub record HeadWindow : Type 0 where
   pub base : ℕ
   pub entries : List ℕ
 
+-- the window of these entries from the base on
+abbrev pub window_at : ℕ → List ℕ → HeadWindow
+window_at base entries = record { base = base; entries = entries }
+
 -- a window is stored as the pair of its fields
 abbrev pub window_code : Coded HeadWindow
 window_code = code_by (ℕ × List ℕ) (coded× coded_ℕ (coded_list coded_ℕ)) (λ w. (w.base, w.entries))

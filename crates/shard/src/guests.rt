@@ -2,8 +2,8 @@
 ghost use Rattle.std.specs.Prelude.{[], ◌≡◌, ◌-◌, ◌+◌, ◌<◌, ◌≤◌, ℕ, None, OnErr, OnOk, drop, length, vec_capacity};
 ghost use Rattle.std.specs.FinMap as map;
 ghost use Rattle.groups.specs.Dead.{AreEntered, dead_among};
-ghost use Rattle.groups.specs.Directory.{entered, entered_from, struck, with_entries};
-ghost use Rattle.shard.specs.Guests.{HasReserved, KeepsGuests, KeepsRoom, no_guests};
+ghost use Rattle.groups.specs.Directory.{entered_from, struck, with_entries};
+ghost use Rattle.shard.specs.Guests.{HasReserved, KeepsGuests, KeepsRoom, no_guests, with_moved};
 ghost use Rattle.span.specs.Ids.{rank};
 
 use groups::{Directory, Place};
@@ -139,8 +139,7 @@ impl<L: Log> Guests<L> {
     /// order.
     pub fn move_all(&mut self, guests: &[Span<L>], head: SpanId)
         requires { AreEntered self.old.directory.entries guests.now }
-        ensures { self.new ≡ record self.old { directory = with_entries self.old.directory
-            (entered self.old.directory.entries guests.now head 1) } }
+        ensures { self.new ≡ with_moved self.old guests.now head }
     {
         self.directory.move_all(guests, head);
     }

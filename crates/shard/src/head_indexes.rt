@@ -6,7 +6,7 @@ ghost use Rattle.groups.specs.Directory.{Entries, entered, struck};
 ghost use Rattle.groups.specs.Group.{AreNoHeadsFrom, HasNoHead};
 ghost use Rattle.span.specs.Ids.{rank};
 ghost use Rattle.shard.specs.Group.{GroupState};
-ghost use Rattle.shard.specs.HeadWindow.{HeadWindow, KeepsNote, end_of, entry_of, most_entries, note_in};
+ghost use Rattle.shard.specs.HeadWindow.{HeadWindow, KeepsNote, end_of, entry_of, most_entries, note_in, window_at};
 ghost use Rattle.shard.specs.Heads.{AreReady, HasNoHeadsOf, HasNotesFor, IsNoted, IsOther, KnowsArrival, KnowsHeads, KnowsNoHeads, LeadsTo, MakesPlace, NotesFollow, OthersStay, lowered, note_at, raised};
 ghost use Rattle.span.specs.declared.limits.TheConstants.{MOST_PAGES};
 
@@ -469,8 +469,8 @@ fn note_heads<L: Log>(
         (record { base = base; entries = indexes.old.items }) from }
     ensures known { KnowsHeads number groups.now.items
         (record { base = base; entries = indexes.new.items }) }
-    ensures others { OthersStay number groups.now.items (record { base = base;
-        entries = indexes.old.items }) (record { base = base; entries = indexes.new.items }) }
+    ensures others { OthersStay number groups.now.items (window_at base indexes.old.items)
+        (window_at base indexes.new.items) }
     ensures len { length indexes.new.items ≡ length indexes.old.items }
 {
     for index in from..groups.len() {

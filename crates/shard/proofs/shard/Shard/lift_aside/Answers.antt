@@ -122,10 +122,10 @@ returns-clause-lifts g c =
       subst (λ (s : ShardState). IsHeadOf (filter has_stayed s.groups) c.args.head left.0 group) c.self.view_is left.1,
       c.new.ensures ∙ rw (c.into_parts-spans.ensures.spans, c.into_parts-spans.ensures.page, c.replace.ensures.value) refl,
       ap (λ (onto : Option SpanId). record (state_of c.self.inside) {
-            onto = onto;
-            span_room = c.depart.new.self.span_room;
-            groups = filter has_stayed (set c.self.inside.groups.items c.in-Some.index c.replace.new.dest);
-          }) c.depart.ensures.onto
+        onto = onto;
+        span_room = c.depart.new.self.span_room;
+        groups = filter has_stayed (set c.self.inside.groups.items c.in-Some.index c.replace.new.dest);
+      }) c.depart.ensures.onto
           ∙ ap (λ (room : ℕ). record (state_of c.self.inside) {
             onto = None;
             span_room = room;
