@@ -261,19 +261,23 @@ impl Core {
     #[allow(clippy::inline_always)]
     #[inline(always)]
     fn plain_key(&mut self, put: raw::PutReply, len: usize) -> Option<Key> {
-        // No key has generation 0, which is passed over here too.
-        let is_plain = put.status == raw::OK
-            && put.key.generation.wrapping_sub(1) < self.limits.generations - 1
-            && len >= self.least_words.into();
+        let is_plain = self.has_later_key(&put) && len >= self.least_words.into();
         self.count_plain(put, is_plain)
+    }
+
+    /// Whether a put was done, and its slot may give out another key later.
+    #[allow(clippy::inline_always)]
+    #[inline(always)]
+    fn has_later_key(&self, put: &raw::PutReply) -> bool {
+        // No key has generation 0, which is passed over here too.
+        put.status == raw::OK && put.key.generation.wrapping_sub(1) < self.limits.generations - 1
     }
 
     /// The same, if no object with fewer words is ever put: `of_objects` made the core.
     #[allow(clippy::inline_always)]
     #[inline(always)]
     fn plain_key_of_least(&mut self, put: raw::PutReply) -> Option<Key> {
-        let is_plain = put.status == raw::OK
-            && put.key.generation.wrapping_sub(1) < self.limits.generations - 1;
+        let is_plain = self.has_later_key(&put);
         self.count_plain(put, is_plain)
     }
 

@@ -189,12 +189,17 @@ impl Core {
         if self.is_gathering() {
             return Ok(self.gather_within(budget));
         }
-        let mut done = self.compact_folding(budget)?;
+        let done = self.compact_folding(budget)?;
+        Ok(self.then_gathering(done))
+    }
+
+    // A part of a compaction; once that is done, small pages are to be brought together behind it.
+    fn then_gathering(&mut self, mut done: Compacted) -> Compacted {
         if !done.more {
             self.begin_gathering();
             done.more = self.is_gathering();
         }
-        Ok(done)
+        done
     }
 
     /// The same up to the last of the folds.
@@ -217,7 +222,8 @@ impl Core {
     /// Takes steps of a [compaction](Core::compact), at least one, until so many are taken or the
     /// caller has had enough, and takes them off what is left. A part that begins a compaction has
     /// its forgetting and its trims, and nothing else. Pages are counted by folds then, without a
-    /// walk of all. The rounds are those of the budget.
+    /// walk of all. The rounds are those of the budget. Behind the folds a part brings up to
+    /// `budget` small pages together.
     pub(crate) fn compact_until(
         &mut self,
         left: &mut usize,
@@ -246,12 +252,8 @@ impl Core {
                 break;
             }
         }
-        let mut done = self.counted(Ok(more))?;
-        if !done.more {
-            self.begin_gathering();
-            done.more = self.is_gathering();
-        }
-        Ok(done)
+        let done = self.counted(Ok(more))?;
+        Ok(self.then_gathering(done))
     }
 
     /// Begins a part of a compaction.
