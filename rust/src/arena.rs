@@ -19,7 +19,7 @@ pub use seat::Seat;
 pub use session::Session;
 
 use crate::boxed::Late;
-use crate::bytes::MOST_BYTES;
+use crate::bytes::{words_for, MOST_BYTES};
 use crate::core::{certificate_text, done, marked, stepped, Limits, Marked, Stepped};
 use crate::raw;
 use crate::refused::Refused;
@@ -202,6 +202,11 @@ impl<T> Arena<T> {
         self.numbers.limits
     }
 
+    /// Whether several of its pages share one of the system.
+    fn has_small_pages(&self) -> bool {
+        self.limits().has_small_pages(words_for(size_of::<T>()))
+    }
+
     /// A seat that nobody has. There are as many as the limits have shards.
     ///
     /// # Errors
@@ -210,7 +215,7 @@ impl<T> Arena<T> {
     /// - [`Refused::OutOfMemory`]: memory was refused.
     pub fn seat(&mut self) -> Result<Seat<T>, Refused> {
         let lanes = self.numbers.lanes as usize;
-        let has_small_pages = self.numbers.limits.slots < Limits::default().slots;
+        let has_small_pages = self.has_small_pages();
         let standing = self.standing()?;
         while standing.next.len() < lanes - 1 {
             let lane = standing.lane()?;

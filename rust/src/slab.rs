@@ -132,7 +132,7 @@ impl<T> Slab<T> {
     /// ```
     pub fn with_capacity(capacity: usize) -> Result<Slab<T>, Refused> {
         let limits = Limits::default();
-        let of_a_shard = limits.pages as usize * values::Values::<T>::SLOTS;
+        let of_a_shard = limits.pages as usize * limits.slots_of(values::Values::<T>::SLOTS);
         let shards = capacity / of_a_shard + usize::from(capacity % of_a_shard != 0);
         let mut slab = Slab::with_limits(Limits {
             shards: u32::try_from(shards)

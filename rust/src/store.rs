@@ -116,7 +116,7 @@ impl<T: Copy> Store<T> {
     /// room for.
     pub fn with_capacity(capacity: usize) -> Result<Store<T>, Refused> {
         let limits = Limits::default();
-        let of_a_shard = limits.pages as usize * Self::SLOTS;
+        let of_a_shard = limits.pages as usize * limits.slots_of(Self::SLOTS);
         let shards = capacity / of_a_shard + usize::from(capacity % of_a_shard != 0);
         let mut store = Store::with_limits(Limits {
             shards: u32::try_from(shards)

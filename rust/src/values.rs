@@ -51,11 +51,10 @@ const FIRST_SHARD: u32 = 0;
 ///
 /// Of a million values these numbers have the least sum of what is resident when all are there, and
 /// when 80 % or 90 % are freed and the slab is compacted. A full slab takes at most 3 % more than
-/// with one word, or 6 % if its values have fewer than 48 bytes.
+/// with one word, or 7 % if its values have 8 to 47 bytes.
 const fn words_beside(bytes: usize) -> usize {
     match bytes {
-        0..=15 => 1,
-        16..=127 => 2,
+        0..=127 => 2,
         128..=383 => 4,
         384..=1535 => 8,
         _ => MOST_WORDS,

@@ -70,6 +70,7 @@ fn sleeps_where_nothing_pays() {
     let store = Arc::new(
         SharedStore::<u64>::with_limits(Limits {
             shards: 1,
+            slots: 256,
             ..Limits::default()
         })
         .unwrap(),
@@ -98,6 +99,7 @@ fn sleeps_where_nothing_pays() {
 fn counts_pages() {
     let limits = Limits {
         shards: 1,
+        slots: 256,
         ..Limits::default()
     };
     let store = Arc::new(SharedStore::<u64>::with_limits(limits).unwrap());
@@ -140,6 +142,7 @@ fn ends_at_once() -> Result<(), Refused> {
 fn seats_help() -> Result<(), Refused> {
     let arena = Arena::<u64>::open(Limits {
         shards: 3,
+        slots: 256,
         ..Limits::default()
     })?;
     let arena = Arc::new(Mutex::new(arena));

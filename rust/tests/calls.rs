@@ -113,10 +113,10 @@ fn a_value_that_is_refused_comes_back() -> Result<(), Refused> {
     let values = (0..300).map(Rc::new);
     let mut values = values.collect::<Vec<_>>().into_iter();
     let error = slab.try_extend(values.by_ref()).unwrap_err();
-    assert_eq!((*error.value, error.refused), (256, Refused::PagesSpent));
+    assert_eq!((*error.value, error.refused), (128, Refused::PagesSpent));
     assert_eq!(
         (slab.len(), values.len(), Rc::strong_count(&error.value)),
-        (256, 43, 1)
+        (128, 171, 1)
     );
     assert!(error
         .to_string()
@@ -127,9 +127,9 @@ fn a_value_that_is_refused_comes_back() -> Result<(), Refused> {
     );
     let error = slab.try_insert(error.value).unwrap_err();
     let error = slab.try_insert_in(0, error.value).unwrap_err();
-    assert_eq!((*error.value, error.refused), (256, Refused::PagesSpent));
+    assert_eq!((*error.value, error.refused), (128, Refused::PagesSpent));
     let error = slab.try_insert_in(1, error.value).unwrap_err();
-    assert_eq!((*error.value, Refused::from(error)), (256, Refused::Config));
+    assert_eq!((*error.value, Refused::from(error)), (128, Refused::Config));
     let gone = slab.keys().next().and_then(|key| slab.remove(key));
     assert!(gone.is_some_and(|value| slab.try_insert_in(0, value).is_ok()));
     slab.end(0)?;
@@ -207,8 +207,8 @@ fn entries_that_wait_for_their_values() -> Result<(), Refused> {
 #[test]
 fn entries_that_are_dropped_use_up_their_slots() -> Result<(), Refused> {
     let mut slab = Slab::<u8>::with_limits(ONE_PAGE)?;
-    for number in 0..4 * 3 * 256 {
-        assert_eq!(slab.vacant_entry()?.key().serial(), number / (3 * 256));
+    for number in 0..4 * 3 * 128 {
+        assert_eq!(slab.vacant_entry()?.key().serial(), number / (3 * 128));
     }
     assert!(slab.is_empty());
     Ok(())
@@ -219,14 +219,14 @@ fn room_for_many() -> Result<(), Refused> {
     let small = Slab::<u64>::with_capacity(10)?;
     assert_eq!(
         (small.limits().shards, small.capacity()),
-        (16, 16 * 1_048_576 * 256)
+        (16, 16 * 1_048_576 * 128)
     );
     let large = Slab::<[u64; 30]>::with_capacity(1_048_577)?;
     assert_eq!(
         (large.limits().shards, large.capacity()),
         (16, 16 * 1_048_576 * 64)
     );
-    for capacity in [64 * 1_048_576 * 256 + 1, usize::MAX] {
+    for capacity in [64 * 1_048_576 * 128 + 1, usize::MAX] {
         assert_eq!(
             Slab::<u64>::with_capacity(capacity).err(),
             Some(Refused::Config)
@@ -237,7 +237,7 @@ fn room_for_many() -> Result<(), Refused> {
         );
     }
     assert_eq!(
-        Store::<u64>::with_capacity(17 * 1_048_576 * 256)?
+        Store::<u64>::with_capacity(17 * 1_048_576 * 128)?
             .limits()
             .shards,
         17
@@ -246,16 +246,16 @@ fn room_for_many() -> Result<(), Refused> {
         shards: 2,
         ..ONE_PAGE
     })?;
-    slab.try_extend(0..256)?;
-    assert_eq!(slab.capacity(), 512);
-    slab.reserve(256)?;
+    slab.try_extend(0..128)?;
+    assert_eq!(slab.capacity(), 256);
+    slab.reserve(128)?;
     slab.reserve(0)?;
-    assert_eq!(slab.reserve(257), Err(Refused::PagesSpent));
+    assert_eq!(slab.reserve(129), Err(Refused::PagesSpent));
     assert_eq!(slab.reserve(usize::MAX), Err(Refused::PagesSpent));
     slab.end(0)?;
-    assert_eq!((slab.capacity(), slab.len()), (256, 256));
-    slab.try_extend(256..512)?;
-    assert!(slab.values().copied().eq(0..512));
+    assert_eq!((slab.capacity(), slab.len()), (128, 128));
+    slab.try_extend(128..256)?;
+    assert!(slab.values().copied().eq(0..256));
     Ok(())
 }
 
@@ -266,7 +266,7 @@ fn shrinks_to_what_has_values() -> Result<(), Refused> {
     slab.retain(|key, _| key == first);
     assert_eq!(
         (slab.pages(), slab.shrink_to_fit(), slab.pages()),
-        (4, 3, 1)
+        (8, 7, 1)
     );
     slab.clear();
     assert_eq!((slab.shrink_to_fit(), slab.pages(), slab.len()), (1, 0, 0));
@@ -312,6 +312,7 @@ fn what_a_core_was_made_with() -> Result<(), Refused> {
         shards: 3,
         pages: 5,
         generations: 7,
+        slots: 256,
         ..Limits::default()
     };
     let mut core = Core::new(limits)?;
@@ -347,7 +348,7 @@ fn behind_a_lock_for_readers() -> Result<(), Refused> {
     let slab = RwLock::new(Slab::try_from_iter(0..10_000_u64)?);
     let sum = || {
         let slab = slab.read().expect("no thread panicked");
-        assert_eq!((slab.pages(), slab.len()), (40, 10_000));
+        assert_eq!((slab.pages(), slab.len()), (79, 10_000));
         assert_eq!(slab.certificate(), Ok(None));
         slab.keys().filter_map(|key| slab.get(key)).sum::<u64>()
     };
@@ -384,6 +385,7 @@ fn a_store_puts_where_there_is_room() -> Result<(), Refused> {
     let mut store = Store::with_limits(Limits {
         shards: 3,
         pages: 1,
+        slots: 256,
         ..Limits::default()
     })?;
     assert_eq!(store.capacity(), 48);

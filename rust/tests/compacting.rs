@@ -372,7 +372,10 @@ fn halves_differ() -> Result<(), Refused> {
     const PAGES: usize = 600;
     // A page of each quarter fits those of one other quarter alone.
     const OCCUPIED: [[usize; 2]; 4] = [[0, 2], [1, 3], [0, 1], [2, 3]];
-    let mut core = Core::new(Limits::default())?;
+    let mut core = Core::new(Limits {
+        slots: 256,
+        ..Limits::default()
+    })?;
     let keys = (0..PAGES * 16)
         .map(|place| core.insert_words(0, &[place as u128; 16]))
         .collect::<Result<Vec<_>, _>>()?;
@@ -397,6 +400,7 @@ fn halves_are_of_shards() -> Result<(), Refused> {
     };
     let mut core = Core::new(Limits {
         shards: 2,
+        slots: 256,
         ..Limits::default()
     })?;
     for shard in 0..2 {
@@ -418,6 +422,7 @@ fn halves_are_of_shards() -> Result<(), Refused> {
 fn compacts_if_it_pays() -> Result<(), Refused> {
     let limits = Limits {
         shards: 1,
+        slots: 256,
         ..Limits::default()
     };
     let mut store = Store::<u64>::with_limits(limits)?;
@@ -649,7 +654,7 @@ fn shards_take_turns() -> Result<(), Refused> {
     assert_eq!(of_store[..5], [16 * PAGES + 1; 5]);
     assert!(of_shared.iter().filter(|count| **count > 0).count() >= 4);
     // Each of five shards has one page more than its turn has, with one value.
-    assert_eq!((slab.pages(), store.pages()), (321, 5 * (PAGES + 1) + 10));
+    assert_eq!((slab.pages(), store.pages()), (642, 5 * (PAGES + 1) + 10));
     Ok(())
 }
 

@@ -247,7 +247,7 @@ fn slots_that_are_worn() -> Result<(), Refused> {
 #[test]
 fn an_emptied_slab() -> Result<(), Refused> {
     for count in [1, 4, 20, 300] {
-        let pages = 1 + count as usize / 257;
+        let pages = 1 + count as usize / 129;
         let mut slab = Slab::new()?;
         for round in 0..4 {
             slab.try_extend((0..count).map(|number| number + round))?;

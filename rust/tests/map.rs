@@ -41,6 +41,7 @@ fn a_million_calls_as_a_map() -> Result<(), Refused> {
     let mut random = Random(7);
     let mut core = Core::new(Limits {
         shards: 64,
+        slots: 256,
         ..Limits::default()
     })?;
     let mut map: HashMap<Key, Vec<u128>> = HashMap::new();
@@ -114,6 +115,7 @@ fn a_million_calls_as_a_map() -> Result<(), Refused> {
 fn sets_in_place() -> Result<(), Refused> {
     let mut core = Core::new(Limits {
         shards: 2,
+        slots: 256,
         ..Limits::default()
     })?;
     let stale = core.insert(0, 1)?;
@@ -192,16 +194,17 @@ fn each_value_is_dropped_once() -> Result<(), Refused> {
     let value = Rc::new(());
     let mut slab = Slab::with_limits(Limits {
         pages: 1,
+        slots: 256,
         ..Limits::default()
     })?;
-    let keys = (0..256)
+    let keys = (0..128)
         .map(|_| slab.insert(value.clone()))
         .collect::<Result<Vec<_>, _>>()?;
     assert_eq!(slab.insert(value.clone()), Err(Refused::PagesSpent));
-    assert_eq!(Rc::strong_count(&value), 257);
-    keys[..100].iter().for_each(|key| drop(slab.remove(*key)));
-    assert_eq!(Rc::strong_count(&value), 157);
-    slab.retain(|key, _| keys[..150].contains(&key));
+    assert_eq!(Rc::strong_count(&value), 129);
+    keys[..50].iter().for_each(|key| drop(slab.remove(*key)));
+    assert_eq!(Rc::strong_count(&value), 79);
+    slab.retain(|key, _| keys[..100].contains(&key));
     assert_eq!((Rc::strong_count(&value), slab.len()), (51, 50));
     drop(slab);
     assert_eq!(Rc::strong_count(&value), 1);

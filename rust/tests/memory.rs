@@ -75,6 +75,7 @@ fn trimmed_pages_leave_the_process() -> Result<(), Refused> {
     const KEPT_FREE: u64 = 63;
     let mut core = Core::new(Limits {
         shards: SHARDS,
+        slots: 256,
         ..Limits::default()
     })?;
     let mut keys =

@@ -15,7 +15,7 @@ impl Numbers {
 }
 
 const PAGES: usize = 1024;
-const SLOTS: usize = 256;
+const SLOTS: usize = 128;
 
 /// A slab whose one shard has 1,024 pages with 5 values of 100 left.
 struct Thinned {
@@ -27,7 +27,10 @@ struct Thinned {
 }
 
 fn thinned() -> Result<Thinned, Refused> {
-    let mut slab = Slab::with_limits(Limits::default())?;
+    let mut slab = Slab::with_limits(Limits {
+        slots: 256,
+        ..Limits::default()
+    })?;
     let keys = (0..PAGES * SLOTS)
         .map(|value| slab.insert(value))
         .collect::<Result<Vec<_>, _>>()?;
@@ -73,7 +76,10 @@ fn one_shard_gives_half_of_its_pages_back() -> Result<(), Refused> {
 
 #[test]
 fn retires_what_has_a_live_key() -> Result<(), Refused> {
-    let mut slab = Slab::with_limits(Limits::default())?;
+    let mut slab = Slab::with_limits(Limits {
+        slots: 256,
+        ..Limits::default()
+    })?;
     assert_eq!(slab.retire(0, 5)?, 0);
     assert_eq!(slab.retire(1, 5), Err(Refused::Config));
     let key = slab.insert(7)?;
@@ -127,6 +133,7 @@ fn marks_some_of_many() -> Result<(), Refused> {
     const SHARDS: u32 = 10;
     let mut core = Core::new(Limits {
         shards: SHARDS,
+        slots: 256,
         ..Limits::default()
     })?;
     // Half of the shards end. On a page of theirs the first slot stays, on one of the others the
@@ -182,6 +189,7 @@ fn trims_what_has_no_live_key() -> Result<(), Refused> {
         shards: 1,
         pages: 2,
         generations: 9,
+        slots: 256,
         ..Limits::default()
     })?;
     assert_eq!((slab.trim(0)?, slab.trim(1)), (0, Err(Refused::Config)));

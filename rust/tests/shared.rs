@@ -221,6 +221,7 @@ fn limits(shards: u32, pages: u32) -> Limits {
     Limits {
         shards,
         pages,
+        slots: 256,
         ..Limits::default()
     }
 }

@@ -9,6 +9,7 @@ fn core(shards: u32, pages: u32, generations: u32) -> Core {
         shards,
         pages,
         generations,
+        slots: 256,
         ..Limits::default()
     })
     .expect("the numbers are within their ranges")
@@ -129,6 +130,7 @@ fn a_cache_closes_down() -> Result<(), Refused> {
         shards: 8,
         pages: 4,
         generations: 9,
+        slots: 256,
         ..Limits::default()
     })?;
     let mut kept = Vec::new();
@@ -170,6 +172,7 @@ fn refused_where_out_of_range() -> Result<(), Refused> {
             shards,
             pages,
             generations,
+            slots: 256,
             ..Limits::default()
         };
         assert_eq!(Core::new(limits).err(), Some(Refused::Config));

@@ -101,6 +101,7 @@ impl<T: Made> Pair<T> {
                 shards: SHARDS,
                 pages: 12,
                 generations: 40,
+                slots: 256,
                 ..Limits::default()
             })?,
             map: HashMap::new(),
@@ -427,14 +428,14 @@ fn values_that_take_no_bytes() -> Result<(), Refused> {
     #[repr(align(4096))]
     struct Nothing;
     let mut slab = Slab::new()?;
-    let keys = (0..600)
+    let keys = (0..300)
         .map(|_| slab.insert(Nothing))
         .collect::<Result<Vec<_>, _>>()?;
     // One value on each of three pages, at slots 0, 1 and 2.
-    slab.retain(|key, _| key == keys[0] || key == keys[257] || key == keys[514]);
+    slab.retain(|key, _| key == keys[0] || key == keys[129] || key == keys[258]);
     assert_eq!((slab.compact()?, slab.pages(), slab.len()), (2, 1, 3));
     assert_eq!(
-        (slab.get(keys[257]), slab.get(keys[256])),
+        (slab.get(keys[129]), slab.get(keys[128])),
         (Some(&Nothing), None)
     );
     assert_eq!(slab.drain().count(), 3);
@@ -467,23 +468,24 @@ fn an_insert_goes_where_there_is_room() -> Result<(), Refused> {
     let mut slab = Slab::with_limits(Limits {
         shards: 3,
         pages: 1,
+        slots: 256,
         ..Limits::default()
     })?;
-    let keys = (0..768)
+    let keys = (0..384)
         .map(|n| slab.insert(n))
         .collect::<Result<Vec<_>, _>>()?;
-    assert_eq!(slab.insert(768), Err(Refused::PagesSpent));
-    for key in [keys[300], keys[7]] {
+    assert_eq!(slab.insert(384), Err(Refused::PagesSpent));
+    for key in [keys[150], keys[7]] {
         slab.remove(key);
     }
     assert_eq!(span(slab.insert(7)?), span(keys[7]));
-    assert_eq!(span(slab.insert(300)?), span(keys[300]));
-    assert_eq!(slab.insert(768), Err(Refused::PagesSpent));
+    assert_eq!(span(slab.insert(150)?), span(keys[150]));
+    assert_eq!(slab.insert(384), Err(Refused::PagesSpent));
     // A shard that has ended is passed over, and its values stay.
     slab.end(0)?;
-    slab.remove(keys[600]);
-    assert_eq!(span(slab.insert(600)?), span(keys[600]));
-    assert_eq!((slab.len(), slab.get(keys[8])), (768, Some(&8)));
+    slab.remove(keys[300]);
+    assert_eq!(span(slab.insert(300)?), span(keys[300]));
+    assert_eq!((slab.len(), slab.get(keys[8])), (384, Some(&8)));
     assert_eq!(slab.insert_in(3, 0), Err(Refused::Config));
     assert_eq!(slab.insert_in(u32::MAX, 0), Err(Refused::Config));
     Ok(())
@@ -503,6 +505,7 @@ fn a_slab_may_go_to_another_thread() {
 fn a_stale_key_of_a_folded_page() -> Result<(), Refused> {
     let mut slab = Slab::with_limits(Limits {
         shards: 2,
+        slots: 256,
         ..Limits::default()
     })?;
     let folded: Vec<_> = (0..20)

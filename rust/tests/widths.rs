@@ -16,6 +16,7 @@ fn value<const BYTES: usize>(number: usize) -> [u8; BYTES] {
 fn in_a_store<const BYTES: usize>() -> Result<(), Refused> {
     let mut store = Store::with_limits(Limits {
         shards: 2,
+        slots: 256,
         ..Limits::default()
     })?;
     let full = slots(BYTES);
@@ -51,6 +52,7 @@ fn shared<const BYTES: usize>() -> Result<(), Refused> {
     let limits = Limits {
         shards: 1,
         pages: 2,
+        slots: 256,
         ..Limits::default()
     };
     let (store, mut arena) = (SharedStore::with_limits(limits)?, Arena::open(limits)?);
@@ -92,7 +94,10 @@ fn values_that_threads_share() -> Result<(), Refused> {
 /// Objects of all widths in one shard: each page has those of one, and each key finds its own.
 #[test]
 fn objects_of_all_widths() -> Result<(), Refused> {
-    let mut core = Core::new(Limits::default())?;
+    let mut core = Core::new(Limits {
+        slots: 256,
+        ..Limits::default()
+    })?;
     let words = |len: usize, number: usize| vec![(number << 8 | len) as u128; len];
     let mut keys = Vec::new();
     for number in 0..=85 {

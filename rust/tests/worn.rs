@@ -9,6 +9,7 @@ fn few(pages: u32, generations: u32) -> Limits {
         shards: 1,
         pages,
         generations,
+        slots: 256,
         ..Limits::default()
     }
 }
@@ -37,7 +38,7 @@ fn one_value_at_a_time() -> Result<(), Refused> {
         assert_eq!(slab.remove(key), Some(value));
         Ok(key)
     })?;
-    assert_eq!((slab.capacity(), slab.len()), (1024, 0));
+    assert_eq!((slab.capacity(), slab.len()), (512, 0));
     let mut core = Core::new(limits)?;
     one_at_a_time(30_000, |value| {
         let key = core.insert_words(0, &[value.into(); 4])?;
@@ -99,7 +100,7 @@ fn what_is_live_stays() -> Result<(), Refused> {
     let mut live = vec![kept];
     loop {
         match slab.insert(9) {
-            Ok(key) if key.slot() == 255 => live.push(key),
+            Ok(key) if key.slot() == 127 => live.push(key),
             Ok(key) => assert_eq!(slab.remove(key), Some(9)),
             Err(refused) => {
                 assert_eq!(refused, Refused::PagesSpent);
@@ -149,7 +150,7 @@ fn spans_are_counted() -> Result<(), Refused> {
     };
     let bits = limits.key_bits().expect("they are short");
     let mut slab = Slab::with_limits(limits)?;
-    let keys: Vec<_> = (0..3 * 256)
+    let keys: Vec<_> = (0..3 * 128)
         .map(|value| slab.insert(value))
         .collect::<Result<_, _>>()?;
     assert!(keys.iter().all(|key| key
@@ -158,7 +159,7 @@ fn spans_are_counted() -> Result<(), Refused> {
     for _ in 0..3 {
         assert_eq!(
             (slab.insert(7), slab.len(), slab.pages()),
-            (Err(Refused::PagesSpent), 768, 3)
+            (Err(Refused::PagesSpent), 384, 3)
         );
     }
     slab.clear();
@@ -178,7 +179,7 @@ fn spans_are_counted() -> Result<(), Refused> {
         .map(|value| shared.insert(value))
         .filter(Result::is_ok)
         .count();
-    assert_eq!((taken, shared.len()), (256, 256));
+    assert_eq!((taken, shared.len()), (128, 128));
     assert_eq!(
         Slab::<u8>::with_limits(Limits { spans: 0, ..limits }).err(),
         Some(Refused::Config)

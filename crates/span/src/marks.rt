@@ -12,8 +12,9 @@ use std::alloc::{AllocError, Global};
 /// says whether a slot is live at a generation.
 ///
 /// The marks are bytes as long as none passes 255, as up to the slot's 127th put, and then 4 bytes
-/// each, or 8 from its 2^31st put on. A list ends behind the slots that were put, at 16, at 64 or
-/// with the class: slots are taken the lowest first, so the marks of few objects take few bytes.
+/// each, or 8 from its 2^31st put on. A list ends behind the slots that were put, at 16, at 64, at
+/// 128 or with the class: slots are taken the lowest first, so the marks of few objects take few
+/// bytes.
 #[derive(Drop)]
 pub(crate) enum Marks {
     Bytes(Vec<u8>),
@@ -261,6 +262,8 @@ fn places_for(class: Class, slot: u8) -> usize
         16
     } else if slot < 64 {
         64
+    } else if slot < 128 {
+        128
     } else {
         SLOTS
     };

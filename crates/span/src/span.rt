@@ -19,8 +19,8 @@ use std::marker::Model;
 /// them.
 ///
 /// A span is moved whenever a list of spans grows, so what is kept of each slot stands outside of
-/// the struct, and comes with puts: a byte for each of 16 slots, of 64 or of all, as far as one was
-/// put, and 4 bytes each once one was put 128 times.
+/// the struct, and comes with puts: a byte for each of 16 slots, of 64, of 128 or of all, as far as
+/// one was put, and 4 bytes each once one was put 128 times.
 /// The log has room for the free of each live slot at all times, so a free takes no memory. A log
 /// that is only [`Counted`](crate::spans::Counted) takes none at all.
 #[derive(Drop)]

@@ -4,7 +4,7 @@ use super::{Arena, Seat};
 use crate::background::{Background, Compacts, Policy};
 use crate::bytes::{slots_for, words_for};
 use crate::compact::Compacted;
-use crate::core::{done, Limits, Stepped};
+use crate::core::{done, Stepped};
 use crate::occupancy::Occupancy;
 use crate::raw;
 use crate::refused::Refused;
@@ -38,10 +38,10 @@ impl<T> Arena<T> {
     /// more to do, the next one begins anew.
     ///
     /// The arena folds what seats have left to the pool ([`Seat::retire`], [`Seat::end`],
-    /// [`Seat::help_compact`]): a step is a mark, a pair of its plan, a forgetting, or, if
-    /// [`Limits::slots`] is below 256, 16 pages of the pool that are brought together. A mark is
-    /// that of [`Arena::mark_some`], so it holds all locks for as long as it plans: the fewer
-    /// groups there are in the pool, the shorter. What is not folded stays in the pool until a seat
+    /// [`Seat::help_compact`]): a step is a mark, a pair of its plan, a forgetting, or, if there
+    /// are pages of less than 4,096 bytes by [`Limits::slots`](crate::Limits::slots), 16 of the
+    /// pool that are brought together. A mark is that of [`Arena::mark_some`], so it holds all
+    /// locks for as long as it plans: the fewer groups there are in the pool, the shorter. What is not folded stays in the pool until a seat
     /// adopts it.
     ///
     /// Between two calls a plan may be open, so [`Arena::mark`], [`Arena::mark_some`],
@@ -117,7 +117,7 @@ impl<T> Arena<T> {
                     Err(refused) => return Err(refused),
                 }
                 self.part = Part::Gather { from: 0 };
-                if self.numbers.limits.slots == Limits::default().slots {
+                if !self.has_small_pages() {
                     self.part = Part::Mark;
                     return Ok(false);
                 }

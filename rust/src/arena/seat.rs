@@ -649,7 +649,8 @@ impl<T> Seat<T> {
     /// Moves each page of the seat's shard, or of all that it has, to a block of memory that it
     /// asks for now. Pages of less than 4,096 bytes share pages of the system, and those that this
     /// empties leave the process. No key changes. The shard is locked for 16 pages at a time. If
-    /// [`Limits::slots`](crate::Limits::slots) is below 256, [`Seat::help_compact`] does so.
+    /// there are such pages by [`Limits::slots`](crate::Limits::slots), [`Seat::help_compact`] does
+    /// so.
     ///
     /// # Errors
     ///

@@ -1,6 +1,6 @@
 //! Small pages that are brought together, at once and in parts.
 
-use super::{done, Core, Limits, Plan};
+use super::{done, Core, Plan};
 use crate::compact::Compacted;
 use crate::raw;
 use crate::refused::Refused;
@@ -36,8 +36,8 @@ impl Default for Gathering {
 impl Core {
     /// Moves each page of the shard to a block of memory that it asks for now. Pages of less than
     /// 4,096 bytes share pages of the system, and those that this empties leave the process. No key
-    /// changes. If [`Limits::slots`](super::Limits::slots) is below 256, [`Core::compact`] and
-    /// [`Core::compact_within`] do so behind their folds.
+    /// changes. If there are such pages by [`Limits::slots`](super::Limits::slots),
+    /// [`Core::compact`] and [`Core::compact_within`] do so behind their folds.
     ///
     /// # Errors
     ///
@@ -65,7 +65,7 @@ impl Core {
         let Gathering::Waiting { went } = self.gathering else {
             return;
         };
-        let has_small = self.limits.slots < Limits::default().slots;
+        let has_small = self.limits.has_small_pages(self.least_words.into());
         if has_small && went > 0 && (went as usize).saturating_mul(PAYS) >= self.pages() {
             self.gathering = Gathering::UnderWay { shard: 0, group: 0 };
         }

@@ -1,5 +1,6 @@
 //! The numbers of a core.
 
+use crate::bytes::slots_for;
 use crate::key_bits::KeyBits;
 use crate::names::Key;
 use crate::refused::Refused;
@@ -17,10 +18,10 @@ pub struct Limits {
     /// How many pages a shard may open in its life, 1 to 4,294,967,295. Each insert that finds no
     /// room opens one, and a fold uses one up. Fewer make keys shorter ([`Limits::key_bits`]).
     pub spans: u32,
-    /// How many slots of a page inserts may take, the lowest ones, 1 to 256. A page has 256 of
-    /// values of up to 16 bytes, and fewer of larger ones. The fewer they take, the more pages fit
-    /// each other once values are gone, so a compaction gives more back. Until then there are more
-    /// pages. Smaller pages share pages of the system, and a compaction
+    /// How many slots of a page inserts may take, the lowest ones, 1 to 256: 128 if nobody says so.
+    /// A page has 256 of values of up to 16 bytes, and 128 or fewer of larger ones. The fewer they
+    /// take, the more pages fit each other once values are gone, so a compaction gives more back.
+    /// Until then there are more pages. Smaller pages share pages of the system, and a compaction
     /// [brings them together](crate::Core::gather).
     pub slots: u32,
     /// How often a slot may be used, at least once. A slot that was used so often is never used
@@ -30,13 +31,13 @@ pub struct Limits {
 }
 
 impl Default for Limits {
-    /// One shard, with as many pages and generations as there can be.
+    /// One shard, with as many pages and generations as there can be, and 128 slots of each page.
     fn default() -> Limits {
         Limits {
             shards: 1,
             pages: MOST_PAGES,
             spans: u32::MAX,
-            slots: MOST_SLOTS,
+            slots: SLOTS,
             generations: u32::MAX,
         }
     }
@@ -72,7 +73,7 @@ impl Limits {
             shards: SHARDS,
             pages: MOST_PAGES,
             spans: 1 << 28,
-            slots: MOST_SLOTS,
+            slots: SLOTS,
             generations: (1 << 24) - 1,
         }
     }
@@ -87,6 +88,13 @@ impl Limits {
     /// How many slots inserts may take of a page that has so many.
     pub(crate) fn slots_of(self, page: usize) -> usize {
         page.min(self.slots as usize)
+    }
+
+    /// Whether pages of values of so many words take less than a page of the system, so that
+    /// several share one.
+    pub(crate) fn has_small_pages(self, words: usize) -> bool {
+        let words_of_page = self.slots_of(slots_for(words)) * words;
+        (1..=MOST_SMALL).contains(&words_of_page)
     }
 
     /// That each number is in its range, as the library has it.
@@ -112,6 +120,15 @@ const MOST_PAGES: u32 = 1 << 20;
 
 /// How many slots a page has at most.
 const MOST_SLOTS: u32 = 256;
+
+/// How many slots of a page inserts take where nobody says so: of values of 16 bytes half as many
+/// as there are. Full, a page is so filled up to its half, and twice as many pages cost 4 % more;
+/// but with four of five values freed most pages fit each other, where hardly two of 256 slots do.
+const SLOTS: u32 = 128;
+
+/// How many words a page may reach that takes less than a page of the system: beyond them it has
+/// room for 256.
+const MOST_SMALL: usize = 128;
 
 /// How many shards a slab or a store has where nobody says so: so many that each has few pages,
 /// whose number an adoption goes by, and so few that a compaction soon has asked each, and keys fit
