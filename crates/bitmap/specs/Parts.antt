@@ -1,6 +1,6 @@
 -- Numbers by parts of 256, and the set of the parts that have one. No public clause cites this
 -- module.
-use Rattle.std.specs.Prelude.{◌≡◌, ℕ, ◌*◌, ◌≤◌, ◌/◌, ◌%◌, Bool, true, false, List, [], Option, Some, None, length}
+use Rattle.std.specs.Prelude.{◌≡◌, ℕ, ◌*◌, ◌<◌, ◌≤◌, ◌/◌, ◌%◌, Bool, true, false, List, [], Option, Some, None, length}
 use Rattle.std.specs.List.{slice_index_or}
 use Rattle.std.specs.FinSet as set
 use Rattle.bitmap.specs.Slots.{SlotSet, slots_where}
@@ -33,6 +33,14 @@ pub record IsSummary (numbers filled : SlotSet) : Type 0 where
   pub has : (n : ℕ) → set.contains numbers n ≡ true → set.contains filled (n / SLOTS) ≡ true
   pub some : (part : ℕ) → set.contains filled part ≡ true → (n : ℕ) × (n / SLOTS ≡ part)
       × (set.contains numbers n ≡ true)
+
+-- the same of the parts below the limit alone, and no other that there is not is in the second set
+pub record IsSummaryTo (numbers filled : SlotSet) (limit count : ℕ) : Type 0 where
+  pub has : (n : ℕ) → set.contains numbers n ≡ true → n / SLOTS < limit
+      → set.contains filled (n / SLOTS) ≡ true
+  pub some : (part : ℕ) → set.contains filled part ≡ true → part < limit
+      → (n : ℕ) × (n / SLOTS ≡ part) × (set.contains numbers n ≡ true)
+  pub within : (part : ℕ) → set.contains filled part ≡ true → part < count
 
 -- the parts of levels that may have no memory yet
 abbrev pub parts_in : Option (List SlotSet) → List SlotSet

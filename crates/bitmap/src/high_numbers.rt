@@ -1,5 +1,5 @@
 // The numbers of a set from 256 on, which have memory only once there is room for one.
-ghost use Rattle.std.specs.Prelude.{◌≡◌, ◌+◌, ◌*◌, ◌<◌, ◌≤◌, ℕ, [], IfSome, MatchOption, OnErr, OnOk, length, nat_lt};
+ghost use Rattle.std.specs.Prelude.{◌≡◌, ◌+◌, ◌*◌, ◌%◌, ◌<◌, ◌≤◌, ℕ, [], IfSome, MatchOption, OnErr, OnOk, length, nat_lt};
 ghost use Rattle.std.specs.FinSet as set;
 ghost use Rattle.bitmap.specs.Parts.{in_parts, numbers_in};
 ghost use Rattle.bitmap.specs.Slots.{IsLowest};
@@ -122,15 +122,16 @@ impl HighNumbers {
         }
     }
 
-    /// Moves the numbers from the limit on one up. Where all are, the first comes from slot 255 of
-    /// the part before.
+    /// Moves the numbers of the quads from the one at the limit on up by one quad. In its place
+    /// come the last four slots of the part before, which has none if a number stays.
     pub(crate) fn shift_up(&mut self, limit: usize, before: Bits256)
-        ensures below { (q : ℕ) → q < limit → q < SLOTS * length self.old
-            → in_parts self.new q ≡ in_parts self.old q }
-        ensures above { (q : ℕ) → limit ≤ q → q + 1 < SLOTS * length self.old
-            → in_parts self.new (q + 1) ≡ in_parts self.old q }
-        ensures first { limit ≡ 0 → 0 < length self.old
-            → in_parts self.new 0 ≡ set.contains before 255 }
+        requires aligned { limit % 4 ≡ 0 }
+        requires alone { 0 < limit → before ≡ set.empty }
+        ensures below { (q : ℕ) → q < limit → in_parts self.new q ≡ in_parts self.old q }
+        ensures this { (slot : ℕ) → slot < 4 → limit < SLOTS * length self.old
+            → in_parts self.new (limit + slot) ≡ set.contains before (252 + slot) }
+        ensures above { (q : ℕ) → limit ≤ q → q + 4 < SLOTS * length self.old
+            → in_parts self.new (q + 4) ≡ in_parts self.old q }
         ensures len { length self.new ≡ length self.old }
     {
         if let Some(levels) = &mut self.levels {
@@ -138,10 +139,10 @@ impl HighNumbers {
         }
     }
 
-    /// Takes the number at the limit out, and moves those above it one down.
+    /// Takes the quad at the limit out, and moves the numbers above it down by one quad.
     pub(crate) fn shift_down(&mut self, limit: usize)
         ensures below { (q : ℕ) → q < limit → in_parts self.new q ≡ in_parts self.old q }
-        ensures above { (q : ℕ) → limit ≤ q → in_parts self.new q ≡ in_parts self.old (q + 1) }
+        ensures above { (q : ℕ) → limit ≤ q → in_parts self.new q ≡ in_parts self.old (q + 4) }
         ensures len { length self.new ≡ length self.old }
     {
         if let Some(levels) = &mut self.levels {

@@ -1,5 +1,5 @@
 // Numbers, and above them the sets of the parts that have one.
-ghost use Rattle.std.specs.Prelude.{◌≡◌, ◌+◌, ◌*◌, ◌/◌, ◌<◌, ◌≤◌, ℕ, [], IfOk, IfSome, MatchOption, OnErr, OnOk, length, nat_lt, vec_len};
+ghost use Rattle.std.specs.Prelude.{◌≡◌, ◌+◌, ◌*◌, ◌/◌, ◌%◌, ◌<◌, ◌≤◌, ℕ, [], IfOk, IfSome, MatchOption, OnErr, OnOk, length, nat_lt, vec_len};
 ghost use Rattle.std.specs.FinSet as set;
 ghost use Rattle.bitmap.specs.Parts.{IsSummary, in_parts, numbers_in};
 ghost use Rattle.bitmap.specs.Slots.{IsLowest};
@@ -8,8 +8,8 @@ ghost use Rattle.bitmap.specs.declared.numbers.TheConstants.{MOST_NUMBERS};
 
 use crate::bits::{Bits256, SLOTS};
 use crate::parts::{
-    below, contains_in, fill, gather_all, grow, insert_in, lowest_in, part_at, remove_in,
-    spread_all, summarize, summary_of,
+    contains_in, fill, gather_all, grow, insert_in, lowest_in, part_at, remove_in, spread_all,
+    summarize_from, summary_of,
 };
 use std::alloc::{AllocError, Global};
 use std::marker::Model;
@@ -124,30 +124,31 @@ impl Levels {
         strike(&mut self.parts, &mut self.filled, &mut self.top, number);
     }
 
-    /// Moves the numbers from the limit on one up. Where all are, the first comes from slot 255 of
-    /// the part before.
+    /// Moves the numbers of the quads from the one at the limit on up by one quad. In its place
+    /// come the last four slots of the part before, which has none if a number stays.
     pub(crate) fn shift_up(&mut self, limit: usize, before: Bits256)
-        ensures below { (q : ℕ) → q < limit → q < SLOTS * length self.old
-            → in_parts self.new q ≡ in_parts self.old q }
-        ensures above { (q : ℕ) → limit ≤ q → q + 1 < SLOTS * length self.old
-            → in_parts self.new (q + 1) ≡ in_parts self.old q }
-        ensures first { limit ≡ 0 → 0 < length self.old
-            → in_parts self.new 0 ≡ set.contains before 255 }
+        requires aligned { limit % 4 ≡ 0 }
+        requires alone { 0 < limit → before ≡ set.empty }
+        ensures below { (q : ℕ) → q < limit → in_parts self.new q ≡ in_parts self.old q }
+        ensures this { (slot : ℕ) → slot < 4 → limit < SLOTS * length self.old
+            → in_parts self.new (limit + slot) ≡ set.contains before (252 + slot) }
+        ensures above { (q : ℕ) → limit ≤ q → q + 4 < SLOTS * length self.old
+            → in_parts self.new (q + 4) ≡ in_parts self.old q }
         ensures len { length self.new ≡ length self.old }
     {
         spread_all(&mut self.parts, limit, before);
-        summarize(&self.parts, &mut self.filled);
+        summarize_from(&self.parts, &mut self.filled, limit / SLOTS);
         self.top = summary_of(&self.filled);
     }
 
-    /// Takes the number at the limit out, and moves those above it one down.
+    /// Takes the quad at the limit out, and moves the numbers above it down by one quad.
     pub(crate) fn shift_down(&mut self, limit: usize)
         ensures below { (q : ℕ) → q < limit → in_parts self.new q ≡ in_parts self.old q }
-        ensures above { (q : ℕ) → limit ≤ q → in_parts self.new q ≡ in_parts self.old (q + 1) }
+        ensures above { (q : ℕ) → limit ≤ q → in_parts self.new q ≡ in_parts self.old (q + 4) }
         ensures len { length self.new ≡ length self.old }
     {
         gather_all(&mut self.parts, limit);
-        summarize(&self.parts, &mut self.filled);
+        summarize_from(&self.parts, &mut self.filled, limit / SLOTS);
         self.top = summary_of(&self.filled);
     }
 
@@ -261,5 +262,5 @@ fn fill_levels(high: &mut Vec<Bits256>, filled: &mut Vec<Bits256>, count: usize)
     let parts = count.div_ceil(SLOTS);
     fill(high, count);
     fill(filled, parts);
-    below(parts.div_ceil(SLOTS))
+    Bits256::below(parts.div_ceil(SLOTS))
 }

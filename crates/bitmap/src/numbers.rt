@@ -8,7 +8,7 @@ ghost use Rattle.bitmap.specs.declared.numbers.TheConstants.{MOST_NUMBERS};
 
 use crate::bits::{Bits256, SLOTS};
 use crate::high_numbers::HighNumbers;
-use crate::parts::{below, gather, spread};
+use crate::parts::{gather, spread};
 use std::alloc::{AllocError, Global};
 use std::marker::Model;
 use std::mem::size_of;
@@ -138,36 +138,47 @@ impl NumberSet {
         }
     }
 
-    /// Moves the numbers from this one on up by one, so that the set does not have this one. It
-    /// takes a step for each 64 that the set has room for, and no memory.
-    pub fn shift_up(&mut self, number: usize)
-        requires within { number < self.old.room }
-        requires room { (n : ℕ) → set.contains self.old.numbers n ≡ true → n + 1 < self.old.room }
-        ensures below { (n : ℕ) → n < number
+    /// Moves the numbers of the quads from this one on up by one quad, so that the set has none of
+    /// this one. The quad at an index is the four numbers from four times the index on. It takes a
+    /// step for each 256 that the set has room for from there on, and no memory.
+    pub fn shift_up(&mut self, quad: usize)
+        requires small { quad < MOST_NUMBERS }
+        requires room { (n : ℕ) → set.contains self.old.numbers n ≡ true → n + 4 < self.old.room }
+        ensures below { (n : ℕ) → n / 4 < quad
             → set.contains self.new.numbers n ≡ set.contains self.old.numbers n }
-        ensures this { set.contains self.new.numbers number ≡ false }
-        ensures above { (n : ℕ) → number ≤ n
-            → set.contains self.new.numbers (n + 1) ≡ set.contains self.old.numbers n }
+        ensures this { (n : ℕ) → n / 4 ≡ quad → set.contains self.new.numbers n ≡ false }
+        ensures above { (n : ℕ) → quad ≤ n / 4
+            → set.contains self.new.numbers (n + 4) ≡ set.contains self.old.numbers n }
         ensures room { self.new.room ≡ self.old.room }
     {
+        let first = 4 * quad;
+        if first >= SLOTS {
+            self.high.shift_up(first - SLOTS, Bits256::empty());
+            return;
+        }
         let before = self.low;
-        self.low = spread(&before, number, &Bits256::empty());
-        self.high.shift_up(number.saturating_sub(SLOTS), before);
-        self.remove(number);
+        self.low = spread(&before, first, &Bits256::empty());
+        self.high.shift_up(0, before);
     }
 
-    /// Takes the number out, and moves those above it down by one. It takes a step for each 64 that
-    /// the set has room for, and no memory.
-    pub fn shift_down(&mut self, number: usize)
-        ensures below { (n : ℕ) → n < number
+    /// Takes the numbers of the quad out, and moves those above it down by one quad. It takes a
+    /// step for each 256 that the set has room for from there on, and no memory.
+    pub fn shift_down(&mut self, quad: usize)
+        requires { quad < MOST_NUMBERS }
+        ensures below { (n : ℕ) → n / 4 < quad
             → set.contains self.new.numbers n ≡ set.contains self.old.numbers n }
-        ensures above { (n : ℕ) → number ≤ n
-            → set.contains self.new.numbers n ≡ set.contains self.old.numbers (n + 1) }
+        ensures above { (n : ℕ) → quad ≤ n / 4
+            → set.contains self.new.numbers n ≡ set.contains self.old.numbers (n + 4) }
         ensures room { self.new.room ≡ self.old.room }
     {
+        let first = 4 * quad;
+        if first >= SLOTS {
+            self.high.shift_down(first - SLOTS);
+            return;
+        }
         let after = self.high.first_part();
-        self.low = gather(&self.low, number, &after);
-        self.high.shift_down(number.saturating_sub(SLOTS));
+        self.low = gather(&self.low, first, &after);
+        self.high.shift_down(0);
     }
 
     /// Has the numbers below the count then, and no others. It takes a step for each 256 that it
@@ -179,7 +190,7 @@ impl NumberSet {
         ensures room { self.new.room ≡ self.old.room }
     {
         let more = count.saturating_sub(SLOTS);
-        self.low = below(count.min(SLOTS));
+        self.low = Bits256::below(count.min(SLOTS));
         self.high.fill(more);
     }
 }

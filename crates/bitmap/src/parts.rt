@@ -1,8 +1,8 @@
 // Numbers by parts of 256, each part a set of slots.
-ghost use Rattle.std.specs.Prelude.{◌≡◌, ◌+◌, ◌*◌, ◌/◌, ◌<◌, ◌≤◌, ℕ, MatchOption, OnErr, OnOk, nat_lt, vec_len};
+ghost use Rattle.std.specs.Prelude.{◌≡◌, ◌+◌, ◌*◌, ◌/◌, ◌%◌, ◌<◌, ◌≤◌, ℕ, MatchOption, OnErr, OnOk, nat_lt, vec_len};
 ghost use Rattle.std.specs.FinSet as set;
 ghost use Rattle.bitmap.specs.declared.parts.TheConstants.{MOST_PARTS};
-ghost use Rattle.bitmap.specs.Parts.{HasNoneIn, IsLowestIn, IsSummary, has_number, in_parts, numbers_in};
+ghost use Rattle.bitmap.specs.Parts.{HasNoneIn, IsLowestIn, IsSummary, IsSummaryTo, has_number, in_parts, numbers_in};
 
 use crate::bits::{Bits256, SLOTS};
 use std::alloc::AllocError;
@@ -76,7 +76,7 @@ pub(crate) fn fill(parts: &mut Vec<Bits256>, count: usize)
         set.contains (numbers_in parts.new.items) number ≡ nat_lt number count }
     ensures len { vec_len parts.new ≡ vec_len parts.old }
 {
-    let full = below(SLOTS);
+    let full = Bits256::below(SLOTS);
     for part in 0..parts.len() {
         parts[part] = part_below(&full, count.saturating_sub(SLOTS * part));
     }
@@ -87,93 +87,116 @@ fn part_below(full: &Bits256, limit: usize) -> Bits256
     requires { (slot : ℕ) → set.contains full.now slot ≡ nat_lt slot 256 }
     ensures { (slot : ℕ) → slot < 256 → set.contains result slot ≡ nat_lt slot limit }
 {
-    if limit >= SLOTS { *full } else { below(limit) }
-}
-
-/// The slots below the limit.
-pub(crate) fn below(limit: usize) -> Bits256
-    requires { limit ≤ 256 }
-    ensures { (slot : ℕ) → set.contains result slot ≡ nat_lt slot limit }
-{
-    let mut slots = Bits256::empty();
-    for slot in 0..limit {
-        slots.insert(slot as u8);
+    if limit >= SLOTS {
+        *full
+    } else {
+        Bits256::below(limit)
     }
-    slots
 }
 
-/// The slots of the part, of which those from the limit on are one higher. Where all are, slot 0
-/// comes from slot 255 of the part before.
+/// The slots of the part, of which those from the limit on are four higher. In the four places that
+/// they leave, the last four slots of the part before come in, which has none if a slot stays.
 pub(crate) fn spread(part: &Bits256, limit: usize, before: &Bits256) -> Bits256
-    ensures below { (slot : ℕ) → slot < 256 → slot < limit
+    requires within { limit < 256 }
+    requires alone { 0 < limit → before.now ≡ set.empty }
+    ensures below { (slot : ℕ) → slot < limit
         → set.contains result slot ≡ set.contains part.now slot }
-    ensures above { (slot : ℕ) → slot + 1 < 256 → limit ≤ slot
-        → set.contains result (slot + 1) ≡ set.contains part.now slot }
-    ensures first { limit ≡ 0 → set.contains result 0 ≡ set.contains before.now 255 }
+    ensures this { (slot : ℕ) → slot < 4 → limit + slot < 256
+        → set.contains result (limit + slot) ≡ set.contains before.now (252 + slot) }
+    ensures above { (slot : ℕ) → limit ≤ slot → slot + 4 < 256
+        → set.contains result (slot + 4) ≡ set.contains part.now slot }
 {
-    if limit >= SLOTS {
-        return *part;
-    }
-    if limit == 0 {
-        return part.up(before);
-    }
-    let high = part.minus(&below(limit));
-    part.minus(&high).union(&high.up(&Bits256::empty()))
+    let high = part.minus(&Bits256::below(limit));
+    part.minus(&high).union(&high.up(before))
 }
 
-/// The slots of the part without the slot at the limit, of which those above it are one lower. Slot
-/// 255 comes from slot 0 of the part after.
+/// The slots of the part without the four from the limit on, of which those above these are four
+/// lower. The last four are the first four of the part after.
 pub(crate) fn gather(part: &Bits256, limit: usize, after: &Bits256) -> Bits256
-    ensures below { (slot : ℕ) → slot < 256 → slot < limit
+    requires { limit < 256 }
+    ensures below { (slot : ℕ) → slot < limit
         → set.contains result slot ≡ set.contains part.now slot }
-    ensures above { (slot : ℕ) → slot + 1 < 256 → limit ≤ slot
-        → set.contains result slot ≡ set.contains part.now (slot + 1) }
-    ensures last { limit < 256 → set.contains result 255 ≡ set.contains after.now 0 }
+    ensures above { (slot : ℕ) → limit ≤ slot → slot + 4 < 256
+        → set.contains result slot ≡ set.contains part.now (slot + 4) }
+    ensures last { (slot : ℕ) → slot < 4 → limit ≤ 252 + slot
+        → set.contains result (252 + slot) ≡ set.contains after.now slot }
 {
-    if limit >= SLOTS {
-        return *part;
-    }
-    if limit == 0 {
-        return part.down(after);
-    }
-    let mut high = part.minus(&below(limit));
-    let low = part.minus(&high);
-    high.remove(limit as u8);
-    low.union(&high.down(after))
+    let low = Bits256::below(limit);
+    let high = part.minus(&low);
+    part.minus(&high).union(&part.down(after).minus(&low))
 }
 
-/// Moves the numbers from the limit on one up. Where all are, the first comes from slot 255 of the
-/// part before.
+/// Moves the numbers of the quads from the one at the limit on up by one quad. In its place come
+/// the last four slots of the part before, which has none if a number stays.
 pub(crate) fn spread_all(parts: &mut Vec<Bits256>, limit: usize, before: Bits256)
+    requires many { vec_len parts.old ≤ MOST_PARTS }
+    requires aligned { limit % 4 ≡ 0 }
+    requires alone { 0 < limit → before ≡ set.empty }
+    ensures below { (q : ℕ) → q < limit → in_parts parts.new.items q ≡ in_parts parts.old.items q }
+    ensures this { (slot : ℕ) → slot < 4 → limit < 256 * vec_len parts.old
+        → in_parts parts.new.items (limit + slot) ≡ set.contains before (252 + slot) }
+    ensures above { (q : ℕ) → limit ≤ q → q + 4 < 256 * vec_len parts.old
+        → in_parts parts.new.items (q + 4) ≡ in_parts parts.old.items q }
+    ensures len { vec_len parts.new ≡ vec_len parts.old }
+{
+    let from = limit / SLOTS;
+    if from >= parts.len() {
+        return;
+    }
+    let this = parts[from];
+    parts[from] = spread(&this, limit % SLOTS, &before);
+    raise_from(parts, from + 1, this);
+}
+
+// Moves the numbers of the parts from this one on up by four. The first four come from the last of
+// the part before.
+fn raise_from(parts: &mut Vec<Bits256>, from: usize, before: Bits256)
     requires { vec_len parts.old ≤ MOST_PARTS }
-    ensures below { (q : ℕ) → q < limit → q < 256 * vec_len parts.old
+    ensures below { (q : ℕ) → q < 256 * from
         → in_parts parts.new.items q ≡ in_parts parts.old.items q }
-    ensures above { (q : ℕ) → limit ≤ q → q + 1 < 256 * vec_len parts.old
-        → in_parts parts.new.items (q + 1) ≡ in_parts parts.old.items q }
-    ensures first { limit ≡ 0 → 0 < vec_len parts.old
-        → in_parts parts.new.items 0 ≡ set.contains before 255 }
+    ensures first { (slot : ℕ) → slot < 4 → from < vec_len parts.old
+        → in_parts parts.new.items (256 * from + slot) ≡ set.contains before (252 + slot) }
+    ensures above { (q : ℕ) → 256 * from ≤ q → q + 4 < 256 * vec_len parts.old
+        → in_parts parts.new.items (q + 4) ≡ in_parts parts.old.items q }
     ensures len { vec_len parts.new ≡ vec_len parts.old }
 {
     let mut before = before;
-    for part in 0..parts.len() {
+    for part in from..parts.len() {
         let this = parts[part];
-        parts[part] = spread(&this, limit.saturating_sub(SLOTS * part), &before);
+        parts[part] = this.up(&before);
         before = this;
     }
 }
 
-/// Takes the number at the limit out, and moves those above it one down.
+/// Takes the quad at the limit out, and moves the numbers above it down by one quad.
 pub(crate) fn gather_all(parts: &mut Vec<Bits256>, limit: usize)
     requires { vec_len parts.old ≤ MOST_PARTS }
-    ensures below { (q : ℕ) → q < limit
-        → in_parts parts.new.items q ≡ in_parts parts.old.items q }
+    ensures below { (q : ℕ) → q < limit → in_parts parts.new.items q ≡ in_parts parts.old.items q }
     ensures above { (q : ℕ) → limit ≤ q
-        → in_parts parts.new.items q ≡ in_parts parts.old.items (q + 1) }
+        → in_parts parts.new.items q ≡ in_parts parts.old.items (q + 4) }
     ensures len { vec_len parts.new ≡ vec_len parts.old }
 {
-    for part in 0..parts.len() {
+    let from = limit / SLOTS;
+    if from >= parts.len() {
+        return;
+    }
+    let after = part_at(parts, from + 1);
+    parts[from] = gather(&parts[from], limit % SLOTS, &after);
+    lower_from(parts, from + 1);
+}
+
+// Moves the numbers of the parts from this one on down by four, without its first four.
+fn lower_from(parts: &mut Vec<Bits256>, from: usize)
+    requires { vec_len parts.old ≤ MOST_PARTS }
+    ensures below { (q : ℕ) → q < 256 * from
+        → in_parts parts.new.items q ≡ in_parts parts.old.items q }
+    ensures above { (q : ℕ) → 256 * from ≤ q
+        → in_parts parts.new.items q ≡ in_parts parts.old.items (q + 4) }
+    ensures len { vec_len parts.new ≡ vec_len parts.old }
+{
+    for part in from..parts.len() {
         let after = part_at(parts, part + 1);
-        parts[part] = gather(&parts[part], limit.saturating_sub(SLOTS * part), &after);
+        parts[part] = parts[part].down(&after);
     }
 }
 
@@ -189,18 +212,20 @@ pub(crate) fn part_at(parts: &Vec<Bits256>, part: usize) -> Bits256
     }
 }
 
-/// Notes which of the parts have a number.
-pub(crate) fn summarize(parts: &Vec<Bits256>, filled: &mut Vec<Bits256>)
+/// Notes which of the parts from this one on have a number, if that is noted of those before it.
+pub(crate) fn summarize_from(parts: &Vec<Bits256>, filled: &mut Vec<Bits256>, from: usize)
     requires many { vec_len parts.now ≤ MOST_PARTS }
-    requires few { vec_len filled.old ≤ MOST_PARTS }
     requires places { vec_len parts.now ≤ 256 * vec_len filled.old }
+    requires known { IsSummaryTo (numbers_in parts.now.items) (numbers_in filled.old.items) from
+        (vec_len parts.now) }
     ensures summary { IsSummary (numbers_in parts.now.items) (numbers_in filled.new.items) }
     ensures len { vec_len filled.new ≡ vec_len filled.old }
 {
-    fill(filled, 0);
-    for part in 0..parts.len() {
+    for part in from..parts.len() {
         if lowest_in(parts, part).is_some() {
             insert_in(filled, part);
+        } else {
+            remove_in(filled, part);
         }
     }
 }

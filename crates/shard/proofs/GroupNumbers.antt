@@ -1,11 +1,10 @@
 -- The four numbers of a group in a set, as the set is changed by one number after another.
-use Rattle.std.proofs.Common.{◌≡◌, ℕ, ◌⊎◌, ◌+◌, ◌-◌, ◌*◌, ◌/◌, ◌<◌, ◌≤◌, true, false, Bool, ◌∙◌, ap, sym, refl, inl, inr, arith}
+use Rattle.std.proofs.Common.{◌≡◌, ℕ, ◌⊎◌, ◌+◌, ◌-◌, ◌*◌, ◌/◌, ◌<◌, true, false, Bool, ◌∙◌, ap, sym, refl, inl, inr, arith}
 use Rattle.std.specs.FinSet.{contains, insert, remove}
-use Rattle.std.proofs.lemmas.Bool.{cases_eq, cases_lt, true≢false}
-use Rattle.bitmap.specs.Numbers.{NumbersState}
+use Rattle.std.proofs.lemmas.Bool.{cases_eq}
 use Rattle.bitmap.specs.Slots.{SlotSet}
 use Rattle.bitmap.proofs.Summaries.{contains-insert_other, contains-insert_same, contains-remove_other, contains-remove_same}
-use Rattle.shard.specs.Rooms.{AgreeApart, HasAll, IsMoved, IsShiftedDown, IsShiftedUp}
+use Rattle.shard.specs.Rooms.{AgreeApart, HasAll, IsMoved}
 
 -- a number of a group is one of four
 one_of_four : (index n : ℕ) → n / 4 ≡ index → (n ≡ 4 * index) ⊎ ((n ≡ 4 * index + 1) ⊎ ((n ≡ 4 * index + 2) ⊎ (n ≡ 4 * index + 3)))
@@ -58,71 +57,6 @@ module _ (inside : Bool) (index : ℕ) (s0 s1 s2 s3 s4 : SlotSet) (a : IsChanged
   AgreeApart-four n apart =
       e.same n (λ is. apart (omega (arith, is))) ∙ d.same n (λ is. apart (omega (arith, is))) ∙ b.same n (λ is. apart (omega (arith, is)))
       ∙ a.same n (λ is. apart (omega (arith, is)))
-
--- the numbers from one on, moved up by one
-pub record IsOneUp (first : ℕ) (old now : NumbersState) : Type 0 where
-  pub below : (n : ℕ) → n < first → contains now.numbers n ≡ contains old.numbers n
-  pub this : contains now.numbers first ≡ false
-  pub above : (n : ℕ) → first ≤ n → contains now.numbers (n + 1) ≡ contains old.numbers n
-  pub room : now.room ≡ old.room
-
--- each number of the set is so far below its room
-abbrev pub Fits : ℕ → NumbersState → Type 0
-Fits more s = (n : ℕ) → contains s.numbers n ≡ true → n + more < s.room
-
--- it is nearer by one after a move
-pub Fits-up : (more first : ℕ) (old now : NumbersState) → IsOneUp first old now → Fits (more + 1) old → Fits more now
-Fits-up more first old now up fits n member = elim (cases_lt n first) [
-  | inl low ↦ let far = fits n (sym (up.below n low) ∙ member) in omega (arith, far, up.room)
-  | inr high ↦ elim (cases_eq n first) [
-    | inl same ↦ absurd (true≢false (sym member ∙ ap (contains now.numbers) same ∙ up.this))
-    | inr apart ↦
-        let before : n - 1 + 1 ≡ n = omega (arith, high, apart) in
-        let far = fits (n - 1) (sym (up.above (n - 1) (omega (arith, high, apart))) ∙ ap (contains now.numbers) before ∙ member) in
-        omega (arith, far, up.room, before)
-  ]
-]
-
-module _ (index : ℕ) (s0 s1 s2 s3 s4 : NumbersState) (a : IsOneUp (4 * index) s0 s1) (b : IsOneUp (4 * index) s1 s2) (d : IsOneUp (4 * index) s2 s3) (e : IsOneUp (4 * index) s3 s4) where
-  up_by : (n : ℕ) → 4 * index ≤ n → contains s4.numbers (n + 4) ≡ contains s0.numbers n
-  up_by n from =
-      ap (contains s4.numbers) (omega arith) ∙ e.above (n + 3) (omega (arith, from)) ∙ ap (contains s3.numbers) (omega arith) ∙ d.above (n + 2) (omega (arith, from))
-      ∙ ap (contains s2.numbers) (omega arith) ∙ b.above (n + 1) (omega (arith, from)) ∙ a.above n from
-
-  pub IsShiftedUp-four : IsShiftedUp index s0 s4
-  IsShiftedUp-four = record {
-    below = λ n low.
-        let less : n < 4 * index = omega (arith, low) in
-        e.below n less ∙ d.below n less ∙ b.below n less ∙ a.below n less;
-    this = λ n at. elim (one_of_four index n at) [
-      | inl first ↦ ap (contains s4.numbers) first ∙ e.this
-      | inr (inl second) ↦ ap (contains s4.numbers) second ∙ e.above (4 * index) (omega arith) ∙ d.this
-      | inr (inr (inl third)) ↦ ap (contains s4.numbers) (third ∙ omega arith) ∙ e.above (4 * index + 1) (omega arith) ∙ d.above (4 * index) (omega arith) ∙ b.this
-      | inr (inr (inr fourth)) ↦ ap (contains s4.numbers) (fourth ∙ omega arith) ∙ e.above (4 * index + 2) (omega arith) ∙ ap (contains s3.numbers) (omega arith) ∙ d.above (4 * index + 1) (omega arith)
-          ∙ b.above (4 * index) (omega arith) ∙ a.this
-    ];
-    above = λ n high. up_by n (omega (arith, high));
-    room = e.room ∙ d.room ∙ b.room ∙ a.room;
-  }
-
--- the numbers above one, moved down by one
-pub record IsOneDown (first : ℕ) (old now : NumbersState) : Type 0 where
-  pub below : (n : ℕ) → n < first → contains now.numbers n ≡ contains old.numbers n
-  pub above : (n : ℕ) → first ≤ n → contains now.numbers n ≡ contains old.numbers (n + 1)
-  pub room : now.room ≡ old.room
-
-pub IsShiftedDown-four : (index : ℕ) (s0 s1 s2 s3 s4 : NumbersState) → IsOneDown (4 * index) s0 s1 → IsOneDown (4 * index) s1 s2 → IsOneDown (4 * index) s2 s3
-    → IsOneDown (4 * index) s3 s4 → IsShiftedDown index s0 s4
-IsShiftedDown-four index s0 s1 s2 s3 s4 a b d e = record {
-  below = λ n low.
-      let less : n < 4 * index = omega (arith, low) in
-      e.below n less ∙ d.below n less ∙ b.below n less ∙ a.below n less;
-  above = λ n high.
-      let from : 4 * index ≤ n = omega (arith, high) in
-      e.above n from ∙ d.above (n + 1) (omega (arith, from)) ∙ b.above (n + 1 + 1) (omega (arith, from)) ∙ a.above (n + 1 + 1 + 1) (omega (arith, from))
-      ∙ ap (contains s0.numbers) (omega arith);
-  room = e.room ∙ d.room ∙ b.room ∙ a.room;
-}
 
 -- of the numbers of a group the first few have taken the places of those of another
 pub record AreMoved (from to few : ℕ) (old now : SlotSet) : Type 0 where

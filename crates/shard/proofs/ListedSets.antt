@@ -1,5 +1,5 @@
 -- Sets in a list, changed one after another.
-use Rattle.std.proofs.Common.{zero, suc, ◌≡◌, ℕ, ◌<◌, ◌≤◌, Bool, List, [], ◌∷◌, length, set, Option, None, Some, is_some, not, true, false, ◌∙◌, ap, sym, refl, arith, rules}
+use Rattle.std.proofs.Common.{zero, suc, ◌≡◌, ℕ, ◌<◌, ◌≤◌, Bool, List, [], ◌∷◌, length, set, Option, None, Some, is_some, not, true, false, ◌∙◌, ap, refl, arith, rules}
 use Rattle.std.specs.Prelude.{MatchOption}
 use Rattle.std.specs.FinSet.{contains, empty, contains-empty}
 use Rattle.std.proofs.lemmas.Bool.{cases_lt, true≢false}
@@ -40,7 +40,3 @@ pub record IsEnough (count : ℕ) (old now : NumbersState) : Type 0 where
 pub none-found : {A : Type 0} (B : ℕ → Type 0) (found : Option ℕ) (none : Bool) → is_some found ≡ not none → none ≡ true → MatchOption found A B → A
 none-found B None none is so it = it
 none-found B (Some n) none is so it = absurd (true≢false (is ∙ ap not so))
-
-pub some-found : (A : Type 0) {B : ℕ → Type 0} (found : Option ℕ) (none : Bool) → is_some found ≡ not none → none ≡ false → MatchOption found A B → (n : ℕ) × B n
-some-found A None none is some it = absurd (true≢false (sym (is ∙ ap not some)))
-some-found A (Some n) none is some it = (n, it)

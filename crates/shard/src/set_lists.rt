@@ -4,7 +4,6 @@ ghost use Rattle.bitmap.specs.Numbers.{NumbersState};
 ghost use Rattle.bitmap.specs.declared.numbers.TheConstants.{MOST_NUMBERS};
 ghost use Rattle.shard.specs.Rooms.{HasRoomAt, IsNoLess, IsShiftedDown, IsShiftedUp, set_at};
 
-use crate::class_rooms::WORDS;
 use bitmap::NumberSet;
 use std::alloc::{AllocError, Global};
 
@@ -74,11 +73,7 @@ pub(crate) fn shift_up(set: &mut NumberSet, index: usize)
     if set.lowest().is_none() {
         return;
     }
-    let first = WORDS * index;
-    set.shift_up(first);
-    set.shift_up(first);
-    set.shift_up(first);
-    set.shift_up(first);
+    set.shift_up(index);
 }
 
 /// Takes the numbers of the group out of each set, and moves those above them down.
@@ -102,9 +97,5 @@ pub(crate) fn shift_down(set: &mut NumberSet, index: usize)
     if set.lowest().is_none() {
         return;
     }
-    let first = WORDS * index;
-    set.shift_down(first);
-    set.shift_down(first);
-    set.shift_down(first);
-    set.shift_down(first);
+    set.shift_down(index);
 }

@@ -1,18 +1,19 @@
-use Rattle.std.proofs.Common.{◌≡◌, length, arith, rules}
-use Rattle.bitmap.proofs.MovedParts.{IsGathered, IsGathered-next, gathered_above, gathered_below}
+use Rattle.std.proofs.Common.{◌+◌, ◌∙◌, sym, arith}
+use Rattle.bitmap.proofs.InParts.{contains-past}
+use Rattle.bitmap.proofs.MovedParts.{all_gathered-above, all_gathered-below}
 use Rattle.bitmap.proofs.parts.gather_all.Goals as goal
 
-pub loop-part-preserved : goal.loop-part-preserved
-loop-part-preserved c = search (rules, IsGathered-next)
-
-long : (c : goal.After-loop-part) → length c.args.parts.now.items ≡ length c.loop-part.parts.items
-long c = omega (arith, c.loop-part.invariant.0, c.args.parts.now.ok.0, c.loop-part.parts.ok.0)
-
-all : (c : goal.After-loop-part) → IsGathered c.args.parts.now.items c.args.limit c.loop-part.parts.items (length c.loop-part.parts.items)
-all c = search (rules, IsGathered)
+pub returns-then-from-len-clause-above : goal.returns-then-from-len-clause-above
+returns-then-from-len-clause-above c q large =
+    contains-past c.args.parts.now.items q (omega (arith, c.if-from-len.true, c.len.ensures, c.args.parts.now.ok.0, large))
+    ∙ sym (contains-past c.args.parts.now.items (q + 4) (omega (arith, c.if-from-len.true, c.len.ensures, c.args.parts.now.ok.0, large)))
 
 pub returns-clause-below : goal.returns-clause-below
-returns-clause-below c = gathered_below c.args.parts.now.items c.loop-part.parts.items c.args.limit (long c) (all c)
+returns-clause-below c =
+    all_gathered-below c.args.parts.now.items c.args.limit (omega (arith, c.if-from-len.false, c.len.ensures, c.args.parts.now.ok.0)) c.part_at-after.result c.index.result.now c.gather.result c.lower_from.new.parts.items
+    c.index.ensures c.part_at-after.ensures c.gather.ensures.below c.gather.ensures.above c.gather.ensures.last c.lower_from.ensures.below c.lower_from.ensures.above
 
 pub returns-clause-above : goal.returns-clause-above
-returns-clause-above c = gathered_above c.args.parts.now.items c.loop-part.parts.items c.args.limit (long c) (all c)
+returns-clause-above c =
+    all_gathered-above c.args.parts.now.items c.args.limit (omega (arith, c.if-from-len.false, c.len.ensures, c.args.parts.now.ok.0)) c.part_at-after.result c.index.result.now c.gather.result c.lower_from.new.parts.items
+    c.index.ensures c.part_at-after.ensures c.gather.ensures.below c.gather.ensures.above c.gather.ensures.last c.lower_from.ensures.below c.lower_from.ensures.above

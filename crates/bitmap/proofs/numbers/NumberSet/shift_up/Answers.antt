@@ -1,45 +1,55 @@
-use Rattle.std.proofs.Common.{◌≡◌, ◌<◌, ◌≤◌, ℕ, ◌∙◌, ◌+◌, ◌*◌, ◌∷◌, true, ap, arith, length, sym, rules}
-use Rattle.std.specs.FinSet.{contains}
+use Rattle.std.proofs.Common.{◌≡◌, ◌∙◌, ◌+◌, ◌-◌, ◌*◌, ◌∷◌, ap, arith, sym, refl}
+use Rattle.std.specs.FinSet.{contains, contains-empty}
+use Rattle.std.specs.Ordering.{nat_cmp}
 use Rattle.bitmap.specs.Numbers.{NumbersState}
 use Rattle.bitmap.specs.Parts.{numbers_in}
-use Rattle.bitmap.specs.declared.bits.TheConstants.{SLOTS}
-use Rattle.bitmap.proofs.MovedNumbers.{shifted_up-above, shifted_up-below}
-use Rattle.bitmap.proofs.Summaries.{contains-remove_other, contains-remove_same}
+use Rattle.bitmap.proofs.MovedNumbers.{high-below, high-this, high-up, low-below, low-this, low-up}
 use Rattle.bitmap.proofs.numbers.NumberSet.shift_up.Goals as goal
 
-room_is : (c : goal.After-remove) → SLOTS + SLOTS * length c.self.inside.high ≡ c.args.self.now.room
-room_is c = omega (arith, ap (λ (s : NumbersState). s.room) c.self.view_is)
+-- a quad from 256 on
 
-fits : (c : goal.After-remove) → (q : ℕ) → contains (numbers_in (c.self.inside.low ∷ c.self.inside.high)) q ≡ true → q + 1 < SLOTS + SLOTS * length c.self.inside.high
-fits c q member = omega (arith, room_is c, c.requires.room q (sym (ap (λ (s : NumbersState). contains s.numbers q) c.self.view_is) ∙ member))
+pub returns-then-first-ge-SLOTS-clause-below : goal.returns-then-first-ge-SLOTS-clause-below
+returns-then-first-ge-SLOTS-clause-below c n less =
+    high-below c.self.inside.low c.self.inside.low c.self.inside.high c.shift_up.new.self (4 * c.args.quad) c.shift_up.ensures.len
+    (omega (arith, c.if-first-ge-SLOTS.true)) refl c.shift_up.ensures.below n (omega (arith, less))
+    ∙ ap (λ (s : NumbersState). contains s.numbers n) c.self.view_is
 
-moved_below : (c : goal.After-remove) → (q : ℕ) → q < c.args.number
-    → contains (numbers_in (c.spread-self-inside.result ∷ c.shift_up.new.self)) q ≡ contains (numbers_in (c.self.inside.low ∷ c.self.inside.high)) q
-moved_below c =
-    shifted_up-below c.self.inside.low c.spread-self-inside.result c.self.inside.high c.shift_up.new.self c.args.number
-    (omega (arith, c.shift_up.ensures.len))
-    c.spread-self-inside.ensures.below c.spread-self-inside.ensures.above
-    (λ q small within. c.shift_up.ensures.below q (omega (arith, small, c.saturating_sub.ensures)) (omega (arith, within)))
-    (λ q from within. c.shift_up.ensures.above q (omega (arith, from, c.saturating_sub.ensures)) (omega (arith, within)))
-    (λ none some. c.shift_up.ensures.first (omega (arith, none, c.saturating_sub.ensures)) (omega (arith, some)))
-    (omega (arith, c.requires.within, room_is c)) (fits c)
+pub returns-then-first-ge-SLOTS-clause-this : goal.returns-then-first-ge-SLOTS-clause-this
+returns-then-first-ge-SLOTS-clause-this c n here =
+    ap (contains (numbers_in (c.self.inside.low ∷ c.shift_up.new.self))) (let e : n ≡ 4 * c.args.quad + (n - 4 * c.args.quad) = omega (arith, here) in e)
+    ∙ high-this c.self.inside.low c.self.inside.low c.self.inside.high c.shift_up.new.self (4 * c.args.quad) c.shift_up.ensures.len
+    (omega (arith, c.if-first-ge-SLOTS.true)) refl
+    (λ slot small within. c.shift_up.ensures.this slot small within ∙ ap (λ s. contains s (252 + slot)) c.empty.ensures ∙ contains-empty nat_cmp (252 + slot))
+    (n - 4 * c.args.quad) (omega (arith, here))
 
-moved_above : (c : goal.After-remove) → (q : ℕ) → c.args.number ≤ q
-    → contains (numbers_in (c.spread-self-inside.result ∷ c.shift_up.new.self)) (q + 1) ≡ contains (numbers_in (c.self.inside.low ∷ c.self.inside.high)) q
-moved_above c =
-    shifted_up-above c.self.inside.low c.spread-self-inside.result c.self.inside.high c.shift_up.new.self c.args.number
-    (omega (arith, c.shift_up.ensures.len))
-    c.spread-self-inside.ensures.below c.spread-self-inside.ensures.above
-    (λ q small within. c.shift_up.ensures.below q (omega (arith, small, c.saturating_sub.ensures)) (omega (arith, within)))
-    (λ q from within. c.shift_up.ensures.above q (omega (arith, from, c.saturating_sub.ensures)) (omega (arith, within)))
-    (λ none some. c.shift_up.ensures.first (omega (arith, none, c.saturating_sub.ensures)) (omega (arith, some)))
-    (omega (arith, c.requires.within, room_is c)) (fits c)
+pub returns-then-first-ge-SLOTS-clause-above : goal.returns-then-first-ge-SLOTS-clause-above
+returns-then-first-ge-SLOTS-clause-above c n from =
+    high-up c.self.inside.low c.self.inside.low c.self.inside.high c.shift_up.new.self (4 * c.args.quad) c.shift_up.ensures.len
+    (omega (arith, c.if-first-ge-SLOTS.true)) refl c.shift_up.ensures.above
+    (λ q member. omega (arith, ap (λ (s : NumbersState). s.room) c.self.view_is, c.requires.room q (sym (ap (λ (s : NumbersState). contains s.numbers q) c.self.view_is) ∙ member)))
+    n (omega (arith, from))
+    ∙ ap (λ (s : NumbersState). contains s.numbers n) c.self.view_is
+
+-- a quad below 256
 
 pub returns-clause-below : goal.returns-clause-below
-returns-clause-below c q less = search (rules, contains-remove_other, moved_below)
+returns-clause-below c n less =
+    low-below c.self.inside.low c.spread-self-inside.result c.self.inside.high c.shift_up-2.new.self (4 * c.args.quad) c.shift_up-2.ensures.len
+    (omega (arith, c.if-first-ge-SLOTS.false)) (omega arith) c.spread-self-inside.ensures.below n (omega (arith, less))
+    ∙ ap (λ (s : NumbersState). contains s.numbers n) c.self.view_is
 
 pub returns-clause-this : goal.returns-clause-this
-returns-clause-this c = ap (λ (s : NumbersState). contains s.numbers c.args.number) c.remove.ensures ∙ contains-remove_same _ c.args.number
+returns-clause-this c n here =
+    ap (contains (numbers_in (c.spread-self-inside.result ∷ c.shift_up-2.new.self))) (let e : n ≡ 4 * c.args.quad + (n - 4 * c.args.quad) = omega (arith, here) in e)
+    ∙ low-this c.self.inside.low c.spread-self-inside.result c.self.inside.high c.shift_up-2.new.self (4 * c.args.quad) c.shift_up-2.ensures.len
+    (omega (arith, c.if-first-ge-SLOTS.false)) (omega arith)
+    (λ slot small within. c.spread-self-inside.ensures.this slot small within ∙ ap (λ s. contains s (252 + slot)) c.empty-2.ensures ∙ contains-empty nat_cmp (252 + slot))
+    (n - 4 * c.args.quad) (omega (arith, here))
 
 pub returns-clause-above : goal.returns-clause-above
-returns-clause-above c q from = search (rules, contains-remove_other, moved_above)
+returns-clause-above c n from =
+    low-up c.self.inside.low c.spread-self-inside.result c.self.inside.high c.shift_up-2.new.self (4 * c.args.quad) c.shift_up-2.ensures.len
+    (omega (arith, c.if-first-ge-SLOTS.false)) (omega arith) c.spread-self-inside.ensures.above c.shift_up-2.ensures.this c.shift_up-2.ensures.above
+    (λ q member. omega (arith, ap (λ (s : NumbersState). s.room) c.self.view_is, c.requires.room q (sym (ap (λ (s : NumbersState). contains s.numbers q) c.self.view_is) ∙ member)))
+    n (omega (arith, from))
+    ∙ ap (λ (s : NumbersState). contains s.numbers n) c.self.view_is
