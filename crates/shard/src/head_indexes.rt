@@ -378,6 +378,7 @@ fn drop_first(indexes: &mut Vec<u32>, gone: usize)
 // Makes each entry that is an index from this one on one higher. No group is read, and what guests
 // have is no index.
 fn raise_from(indexes: &mut Vec<u32>, from: u32)
+    requires { from < AWAY }
     ensures { indexes.new.items ≡ map (raised from) indexes.old.items }
 {
     raise_each(indexes.as_mut_slice(), from);
@@ -385,6 +386,7 @@ fn raise_from(indexes: &mut Vec<u32>, from: u32)
 
 // The same of a slice. With no branch to a write, a loop takes several entries at once.
 fn raise_each(entries: &mut [u32], from: u32)
+    requires { from < AWAY }
     ensures { entries.new ≡ map (raised from) entries.old }
 {
     for entry in entries.iter_mut() {
@@ -392,12 +394,14 @@ fn raise_each(entries: &mut [u32], from: u32)
     }
 }
 
-// The entry, one higher if it is an index from this one on.
+// The entry, one higher if it is an index from this one on. One comparison tells: an entry below is
+// far above once this index is taken off it.
 #[inline(always)]
 fn raised(from: u32, entry: u32) -> u32
+    requires { from < AWAY }
     ensures { result ≡ raised from entry }
 {
-    if from <= entry && entry < AWAY {
+    if entry.wrapping_sub(from) < AWAY - from {
         entry + 1
     } else {
         entry
@@ -406,6 +410,7 @@ fn raised(from: u32, entry: u32) -> u32
 
 // Makes each entry that is an index behind this one one lower.
 fn lower_behind(indexes: &mut Vec<u32>, at: u32)
+    requires { at < AWAY }
     ensures { indexes.new.items ≡ map (lowered at) indexes.old.items }
 {
     lower_each(indexes.as_mut_slice(), at);
@@ -413,6 +418,7 @@ fn lower_behind(indexes: &mut Vec<u32>, at: u32)
 
 // The same of a slice. With no branch to a write, a loop takes several entries at once.
 fn lower_each(entries: &mut [u32], at: u32)
+    requires { at < AWAY }
     ensures { entries.new ≡ map (lowered at) entries.old }
 {
     for entry in entries.iter_mut() {
@@ -420,12 +426,13 @@ fn lower_each(entries: &mut [u32], at: u32)
     }
 }
 
-// The entry, one lower if it is an index behind this one.
+// The entry, one lower if it is an index behind this one. One comparison tells, as in `raised`.
 #[inline(always)]
 fn lowered(at: u32, entry: u32) -> u32
+    requires { at < AWAY }
     ensures { result ≡ lowered at entry }
 {
-    if at < entry && entry < AWAY {
+    if entry.wrapping_sub(at + 1) < AWAY - at - 1 {
         entry - 1
     } else {
         entry
