@@ -1,5 +1,5 @@
 -- Parts whose slots move by four, from a limit on.
-use Rattle.std.proofs.Common.{◌≡◌, ℕ, ◌+◌, ◌-◌, ◌*◌, ◌/◌, ◌%◌, ◌<◌, ◌≤◌, refl, Option, Some, None, is_some, Bool, true, false, not, ◌&&◌, ◌||◌, nat_lt, List, length, get_or, set, ap, sym, subst, ◌∙◌, inl, inr, arith, lt-ltb, le-ltb, rules}
+use Rattle.std.proofs.Common.{◌≡◌, ℕ, ◌+◌, ◌-◌, ◌*◌, ◌/◌, ◌%◌, ◌<◌, ◌≤◌, min, refl, Option, Some, None, is_some, Bool, true, false, not, ◌&&◌, ◌||◌, nat_lt, List, length, get_or, set, ap, sym, subst, ◌∙◌, inl, inr, arith, lt-ltb, le-ltb, rules}
 use Rattle.std.specs.Cmp.{nat_cmp_total}
 use Rattle.std.specs.Prelude.{MatchOption}
 use Rattle.std.specs.Ordering.{nat_cmp}
@@ -175,8 +175,10 @@ module _ (old : List SlotSet) (limit : ℕ) (within : limit / SLOTS < length old
     (one_this : (slot : ℕ) → slot < 4 → limit % SLOTS + slot < 256 → contains one (limit % SLOTS + slot) ≡ contains before (252 + slot))
     (one_above : (slot : ℕ) → limit % SLOTS ≤ slot → slot + 4 < 256 → contains one (slot + 4) ≡ contains this slot)
     (new_below : (q : ℕ) → q < SLOTS * (limit / SLOTS + 1) → contains (numbers_in new) q ≡ contains (numbers_in (set old (limit / SLOTS) one)) q)
-    (new_first : (slot : ℕ) → slot < 4 → limit / SLOTS + 1 < length old → contains (numbers_in new) (SLOTS * (limit / SLOTS + 1) + slot) ≡ contains this (252 + slot))
-    (new_above : (q : ℕ) → SLOTS * (limit / SLOTS + 1) ≤ q → q + 4 < SLOTS * length old → contains (numbers_in new) (q + 4) ≡ contains (numbers_in (set old (limit / SLOTS) one)) q) where
+    (used end : ℕ) (past : (q : ℕ) → SLOTS * used ≤ q → contains (numbers_in old) q ≡ false) (order : limit / SLOTS + 1 ≤ used) (end_is : end ≡ min (length old) (used + 1))
+    (new_first : (slot : ℕ) → slot < 4 → limit / SLOTS + 1 < end → contains (numbers_in new) (SLOTS * (limit / SLOTS + 1) + slot) ≡ contains this (252 + slot))
+    (new_above : (q : ℕ) → SLOTS * (limit / SLOTS + 1) ≤ q → q + 4 < SLOTS * end → contains (numbers_in new) (q + 4) ≡ contains (numbers_in (set old (limit / SLOTS) one)) q)
+    (new_rest : (q : ℕ) → SLOTS * end ≤ q → contains (numbers_in new) q ≡ contains (numbers_in (set old (limit / SLOTS) one)) q) (long : length new ≡ length old) where
   of_first : (q : ℕ) → q / SLOTS ≡ limit / SLOTS → contains (numbers_in new) q ≡ contains one (q % SLOTS)
   of_first q here = new_below q (omega (arith, here)) ∙ contains-set_same old (limit / SLOTS) within one q here
 
@@ -194,8 +196,8 @@ module _ (old : List SlotSet) (limit : ℕ) (within : limit / SLOTS < length old
       let place : (limit + slot) % SLOTS ≡ limit % SLOTS + slot = omega (arith, small, aligned) in
       of_first (limit + slot) (omega (arith, small, aligned)) ∙ ap (contains one) place ∙ one_this slot small (omega (arith, small, aligned))
 
-  pub all_spread-above : (q : ℕ) → limit ≤ q → q + 4 < SLOTS * length old → contains (numbers_in new) (q + 4) ≡ contains (numbers_in old) q
-  all_spread-above q large fits = elim (cases_lt (q + 4) (SLOTS * (limit / SLOTS + 1))) [
+  all_spread-inside : (q : ℕ) → limit ≤ q → q + 4 < SLOTS * end → contains (numbers_in new) (q + 4) ≡ contains (numbers_in old) q
+  all_spread-inside q large fits = elim (cases_lt (q + 4) (SLOTS * (limit / SLOTS + 1))) [
     | inl inner ↦
         let place : (q + 4) % SLOTS ≡ q % SLOTS + 4 = omega (arith, large, inner) in
         of_first (q + 4) (omega (arith, large, inner)) ∙ ap (contains one) place ∙ one_above (q % SLOTS) (omega (arith, large, inner)) (omega (arith, large, inner))
@@ -208,6 +210,25 @@ module _ (old : List SlotSet) (limit : ℕ) (within : limit / SLOTS < length old
           ∙ ap (contains this) bit ∙ of_this q (omega (arith, seam, past))
       | inr later ↦ new_above q later fits ∙ contains-set_other old (limit / SLOTS) within one q (λ e. absurd (omega (arith, e, later)))
     ]
+  ]
+
+  -- from the end on there is none, and was none
+  pub old_past : (q : ℕ) → SLOTS * end ≤ q → contains (numbers_in old) q ≡ false
+  old_past q large = elim (cases_lt q (SLOTS * length old)) [
+    | inl low ↦ past q (omega (arith, large, low, end_is))
+    | inr beyond ↦ contains-past old q (omega (arith, beyond))
+  ]
+
+  pub new_past : (q : ℕ) → SLOTS * end ≤ q → contains (numbers_in new) q ≡ false
+  new_past q large = elim (cases_lt q (SLOTS * length old)) [
+    | inl low ↦ new_rest q large ∙ contains-set_other old (limit / SLOTS) within one q (λ e. absurd (omega (arith, e, large, end_is, order, within))) ∙ old_past q large
+    | inr beyond ↦ contains-past new q (omega (arith, beyond, long))
+  ]
+
+  pub all_spread-above : (q : ℕ) → limit ≤ q → q + 4 < SLOTS * length old → contains (numbers_in new) (q + 4) ≡ contains (numbers_in old) q
+  all_spread-above q large fits = elim (cases_lt (q + 4) (SLOTS * end)) [
+    | inl low ↦ all_spread-inside q large low
+    | inr beyond ↦ new_past (q + 4) beyond ∙ sym (past q (omega (arith, beyond, fits, end_is)))
   ]
 
 -- parts from one on below another, which have moved down
@@ -257,11 +278,31 @@ module _ (old : List SlotSet) (from : ℕ) (parts : List SlotSet) (at : ℕ) (wi
   }
 
 -- where all parts from one on have moved, no other number is in
-pub lowered_above : (old new : List SlotSet) (from at : ℕ) → length new ≡ length old → length old ≤ at → IsLowered old from new at → (q : ℕ) → SLOTS * from ≤ q
+pub lowered_above : (old new : List SlotSet) (from at end : ℕ) → ((q : ℕ) → SLOTS * end ≤ q → contains (numbers_in old) q ≡ false) → end ≤ at → IsLowered old from new at → (q : ℕ) → SLOTS * from ≤ q
     → contains (numbers_in new) q ≡ contains (numbers_in old) (q + 4)
-lowered_above old new from at long end done q large = elim (cases_lt q (SLOTS * at)) [
+lowered_above old new from at end none order done q large = elim (cases_lt q (SLOTS * at)) [
   | inl inner ↦ done.above q large inner
-  | inr past ↦ contains-past new q (omega (arith, past, long, end)) ∙ sym (contains-past old (q + 4) (omega (arith, past, end)))
+  | inr past ↦ done.rest q past ∙ none q (omega (arith, past, order)) ∙ sym (none (q + 4) (omega (arith, past, order)))
+]
+
+-- one part replaced below a limit from which on there is none
+pub none-set : (old : List SlotSet) (at limit : ℕ) (within : at < length old) (one : SlotSet) → at < limit
+    → ((q : ℕ) → SLOTS * limit ≤ q → contains (numbers_in old) q ≡ false) → (q : ℕ) → SLOTS * limit ≤ q → contains (numbers_in (set old at one)) q ≡ false
+none-set old at limit within one low none q large = contains-set_other old at within one q (λ e. absurd (omega (arith, e, large, low))) ∙ none q large
+
+-- what a look for the least says if it finds none
+pub none-found : {A : Type 0} (B : ℕ → Type 0) (found : Option ℕ) → is_some found ≡ false → MatchOption found A B → A
+none-found B None no_number it = it
+none-found B (Some n) no_number it = absurd (true≢false no_number)
+
+-- a part without a number, before those that have none
+pub none-before : (parts : List SlotSet) (end : ℕ) (this : SlotSet) → 0 < end → end ≤ length parts → ((q : ℕ) → SLOTS * end ≤ q → contains (numbers_in parts) q ≡ false)
+    → this ≡ get_or parts (end - 1) this → this ≡ empty → (q : ℕ) → SLOTS * (end - 1) ≤ q → contains (numbers_in parts) q ≡ false
+none-before parts end this some within none is blank q large = elim (cases_lt q (SLOTS * end)) [
+  | inl low ↦
+      sym (this_at parts (end - 1) (omega (arith, some, within)) this is q (omega (arith, low, large)))
+      ∙ ap (λ s. contains s (q % SLOTS)) blank ∙ contains-empty nat_cmp (q % SLOTS)
+  | inr high ↦ none q high
 ]
 
 -- the first part that moves, and those behind it
@@ -370,31 +411,31 @@ module _ (numbers filled : SlotSet) (at count : ℕ) (within : at < count) (note
   IsSummaryTo-none (Some n) lowest no_number after is = absurd (true≢false no_number)
 
 -- in the end all is noted
-pub IsSummary-all : (parts : List SlotSet) (filled : SlotSet) (at : ℕ) → length parts ≤ at → IsSummaryTo (numbers_in parts) filled at (length parts)
-    → IsSummary (numbers_in parts) filled
-IsSummary-all parts filled at end noted = record {
+pub IsSummary-all : (parts : List SlotSet) (filled : SlotSet) (at count : ℕ) → count ≤ at → IsSummaryTo (numbers_in parts) filled at count
+    → ((q : ℕ) → SLOTS * count ≤ q → contains (numbers_in parts) q ≡ false) → IsSummary (numbers_in parts) filled
+IsSummary-all parts filled at count end noted none = record {
   has = λ n member. noted.has n member (omega (arith, end, inside n member));
   some = λ part member. noted.some part member (omega (arith, end, noted.within part member));
 }
   where
-    inside : (n : ℕ) → contains (numbers_in parts) n ≡ true → n / SLOTS < length parts
-    inside n member = elim (cases_lt (n / SLOTS) (length parts)) [
+    inside : (n : ℕ) → contains (numbers_in parts) n ≡ true → n / SLOTS < count
+    inside n member = elim (cases_lt (n / SLOTS) count) [
       | inl low ↦ low
-      | inr past ↦ absurd (true≢false (sym member ∙ contains-past parts n past))
+      | inr past ↦ absurd (true≢false (sym member ∙ none n (omega (arith, past))))
     ]
 
 -- a summary is one still of the parts before the first that changes
-pub IsSummaryTo-changed : (old new : List SlotSet) (filled : SlotSet) (limit : ℕ) → length new ≡ length old → IsSummary (numbers_in old) filled
-    → ((q : ℕ) → q < limit → contains (numbers_in new) q ≡ contains (numbers_in old) q) → IsSummaryTo (numbers_in new) filled (limit / SLOTS) (length new)
-IsSummaryTo-changed old new filled limit long summary same = record {
+pub IsSummaryTo-changed : (old new : List SlotSet) (filled : SlotSet) (limit end : ℕ) → ((q : ℕ) → SLOTS * end ≤ q → contains (numbers_in old) q ≡ false) → IsSummary (numbers_in old) filled
+    → ((q : ℕ) → q < limit → contains (numbers_in new) q ≡ contains (numbers_in old) q) → IsSummaryTo (numbers_in new) filled (limit / SLOTS) end
+IsSummaryTo-changed old new filled limit end none summary same = record {
   has = λ n member low. summary.has n (sym (same n (omega (arith, low))) ∙ member);
   some = λ part member low.
       let (n, place, is) = summary.some part member in
       (n, place, same n (omega (arith, low, place)) ∙ is);
   within = λ part member.
       let (n, place, is) = summary.some part member in
-      elim (cases_lt part (length new)) [
+      elim (cases_lt part end) [
         | inl low ↦ low
-        | inr past ↦ absurd (true≢false (sym is ∙ contains-past old n (omega (arith, place, past, long))))
+        | inr past ↦ absurd (true≢false (sym is ∙ none n (omega (arith, place, past))))
       ];
 }

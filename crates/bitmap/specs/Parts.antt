@@ -22,6 +22,10 @@ in_parts parts n = set.contains (numbers_in parts) n
 abbrev pub HasNoneIn : SlotSet → ℕ → Type 0
 HasNoneIn numbers part = (n : ℕ) → n / SLOTS ≡ part → set.contains numbers n ≡ false
 
+-- no number from the limit on is in the set
+abbrev pub HasNoneFrom : SlotSet → ℕ → Type 0
+HasNoneFrom numbers limit = (n : ℕ) → limit ≤ n → set.contains numbers n ≡ false
+
 -- the least number of the part that is in the set
 pub record IsLowestIn (numbers : SlotSet) (part n : ℕ) : Type 0 where
   pub inside : set.contains numbers n ≡ true

@@ -136,8 +136,8 @@ impl Levels {
             → in_parts self.new (q + 4) ≡ in_parts self.old q }
         ensures len { length self.new ≡ length self.old }
     {
-        spread_all(&mut self.parts, limit, before);
-        summarize_from(&self.parts, &mut self.filled, limit / SLOTS);
+        let end = spread_all(&mut self.parts, limit, before);
+        summarize_from(&self.parts, &mut self.filled, limit / SLOTS, end);
         self.top = summary_of(&self.filled);
     }
 
@@ -147,8 +147,8 @@ impl Levels {
         ensures above { (q : ℕ) → limit ≤ q → in_parts self.new q ≡ in_parts self.old (q + 4) }
         ensures len { length self.new ≡ length self.old }
     {
-        gather_all(&mut self.parts, limit);
-        summarize_from(&self.parts, &mut self.filled, limit / SLOTS);
+        let end = gather_all(&mut self.parts, limit);
+        summarize_from(&self.parts, &mut self.filled, limit / SLOTS, end);
         self.top = summary_of(&self.filled);
     }
 

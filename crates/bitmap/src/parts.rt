@@ -2,7 +2,7 @@
 ghost use Rattle.std.specs.Prelude.{◌≡◌, ◌+◌, ◌*◌, ◌/◌, ◌%◌, ◌<◌, ◌≤◌, ℕ, MatchOption, OnErr, OnOk, nat_lt, vec_len};
 ghost use Rattle.std.specs.FinSet as set;
 ghost use Rattle.bitmap.specs.declared.parts.TheConstants.{MOST_PARTS};
-ghost use Rattle.bitmap.specs.Parts.{HasNoneIn, IsLowestIn, IsSummary, IsSummaryTo, has_number, in_parts, numbers_in};
+ghost use Rattle.bitmap.specs.Parts.{HasNoneFrom, HasNoneIn, IsLowestIn, IsSummary, IsSummaryTo, has_number, in_parts, numbers_in};
 
 use crate::bits::{Bits256, SLOTS};
 use std::alloc::AllocError;
@@ -127,8 +127,9 @@ pub(crate) fn gather(part: &Bits256, limit: usize, after: &Bits256) -> Bits256
 }
 
 /// Moves the numbers of the quads from the one at the limit on up by one quad. In its place come
-/// the last four slots of the part before, which has none if a number stays.
-pub(crate) fn spread_all(parts: &mut Vec<Bits256>, limit: usize, before: Bits256)
+/// the last four slots of the part before, which has none if a number stays. Returns how many parts
+/// may have had a number, or have one: the parts behind these are not touched.
+pub(crate) fn spread_all(parts: &mut Vec<Bits256>, limit: usize, before: Bits256) -> usize
     requires many { vec_len parts.old ≤ MOST_PARTS }
     requires aligned { limit % 4 ≡ 0 }
     requires alone { 0 < limit → before ≡ set.empty }
@@ -138,63 +139,99 @@ pub(crate) fn spread_all(parts: &mut Vec<Bits256>, limit: usize, before: Bits256
     ensures above { (q : ℕ) → limit ≤ q → q + 4 < 256 * vec_len parts.old
         → in_parts parts.new.items (q + 4) ≡ in_parts parts.old.items q }
     ensures len { vec_len parts.new ≡ vec_len parts.old }
+    ensures within { result ≤ vec_len parts.old }
+    ensures before { HasNoneFrom (numbers_in parts.old.items) (256 * result) }
+    ensures after { HasNoneFrom (numbers_in parts.new.items) (256 * result) }
 {
     let from = limit / SLOTS;
     if from >= parts.len() {
-        return;
+        return parts.len();
     }
+    let end = parts.len().min(end_of(parts, from + 1) + 1);
     let this = parts[from];
     parts[from] = spread(&this, limit % SLOTS, &before);
-    raise_from(parts, from + 1, this);
+    raise_from(parts, from + 1, end, this);
+    end
 }
 
-// Moves the numbers of the parts from this one on up by four. The first four come from the last of
-// the part before.
-fn raise_from(parts: &mut Vec<Bits256>, from: usize, before: Bits256)
-    requires { vec_len parts.old ≤ MOST_PARTS }
+// Past which part none has a number, of the parts from this one on.
+fn end_of(parts: &Vec<Bits256>, from: usize) -> usize
+    requires { from ≤ vec_len parts.now }
+    ensures none { HasNoneFrom (numbers_in parts.now.items) (256 * result) }
+    ensures order { from ≤ result }
+    ensures within { result ≤ vec_len parts.now }
+{
+    let mut end = parts.len();
+    while from < end {
+        if parts[end - 1].lowest().is_some() {
+            return end;
+        }
+        end -= 1;
+    }
+    end
+}
+
+// Moves the numbers of the parts from this one on, before the end, up by four. The first four come
+// from the last of the part before.
+fn raise_from(parts: &mut Vec<Bits256>, from: usize, end: usize, before: Bits256)
+    requires order { from ≤ end }
+    requires within { end ≤ vec_len parts.old }
     ensures below { (q : ℕ) → q < 256 * from
         → in_parts parts.new.items q ≡ in_parts parts.old.items q }
-    ensures first { (slot : ℕ) → slot < 4 → from < vec_len parts.old
+    ensures first { (slot : ℕ) → slot < 4 → from < end
         → in_parts parts.new.items (256 * from + slot) ≡ set.contains before (252 + slot) }
-    ensures above { (q : ℕ) → 256 * from ≤ q → q + 4 < 256 * vec_len parts.old
+    ensures above { (q : ℕ) → 256 * from ≤ q → q + 4 < 256 * end
         → in_parts parts.new.items (q + 4) ≡ in_parts parts.old.items q }
+    ensures rest { (q : ℕ) → 256 * end ≤ q
+        → in_parts parts.new.items q ≡ in_parts parts.old.items q }
     ensures len { vec_len parts.new ≡ vec_len parts.old }
 {
     let mut before = before;
-    for part in from..parts.len() {
+    for part in from..end {
         let this = parts[part];
         parts[part] = this.up(&before);
         before = this;
     }
 }
 
-/// Takes the quad at the limit out, and moves the numbers above it down by one quad.
-pub(crate) fn gather_all(parts: &mut Vec<Bits256>, limit: usize)
+/// Takes the quad at the limit out, and moves the numbers above it down by one quad. Returns how
+/// many parts may have had a number: the parts behind these are not touched.
+pub(crate) fn gather_all(parts: &mut Vec<Bits256>, limit: usize) -> usize
     requires { vec_len parts.old ≤ MOST_PARTS }
     ensures below { (q : ℕ) → q < limit → in_parts parts.new.items q ≡ in_parts parts.old.items q }
     ensures above { (q : ℕ) → limit ≤ q
         → in_parts parts.new.items q ≡ in_parts parts.old.items (q + 4) }
     ensures len { vec_len parts.new ≡ vec_len parts.old }
+    ensures within { result ≤ vec_len parts.old }
+    ensures before { HasNoneFrom (numbers_in parts.old.items) (256 * result) }
+    ensures after { HasNoneFrom (numbers_in parts.new.items) (256 * result) }
 {
     let from = limit / SLOTS;
     if from >= parts.len() {
-        return;
+        return parts.len();
     }
+    let end = end_of(parts, from + 1);
     let after = part_at(parts, from + 1);
     parts[from] = gather(&parts[from], limit % SLOTS, &after);
-    lower_from(parts, from + 1);
+    lower_from(parts, from + 1, end);
+    end
 }
 
-// Moves the numbers of the parts from this one on down by four, without its first four.
-fn lower_from(parts: &mut Vec<Bits256>, from: usize)
-    requires { vec_len parts.old ≤ MOST_PARTS }
+// Moves the numbers of the parts from this one on, before the end, down by four, without its first
+// four. No part from the end on has one.
+fn lower_from(parts: &mut Vec<Bits256>, from: usize, end: usize)
+    requires many { vec_len parts.old ≤ MOST_PARTS }
+    requires within { end ≤ vec_len parts.old }
+    requires none { HasNoneFrom (numbers_in parts.old.items) (256 * end) }
     ensures below { (q : ℕ) → q < 256 * from
         → in_parts parts.new.items q ≡ in_parts parts.old.items q }
     ensures above { (q : ℕ) → 256 * from ≤ q
         → in_parts parts.new.items q ≡ in_parts parts.old.items (q + 4) }
+    ensures rest { (q : ℕ) → 256 * end ≤ q
+        → in_parts parts.new.items q ≡ in_parts parts.old.items q }
     ensures len { vec_len parts.new ≡ vec_len parts.old }
 {
-    for part in from..parts.len() {
+    for part in from..end {
         let after = part_at(parts, part + 1);
         parts[part] = parts[part].down(&after);
     }
@@ -212,16 +249,24 @@ pub(crate) fn part_at(parts: &Vec<Bits256>, part: usize) -> Bits256
     }
 }
 
-/// Notes which of the parts from this one on have a number, if that is noted of those before it.
-pub(crate) fn summarize_from(parts: &Vec<Bits256>, filled: &mut Vec<Bits256>, from: usize)
+/// Notes which of the parts from this one on, before the end, have a number, if that is noted of
+/// those before it. No part from the end on has one.
+pub(crate) fn summarize_from(
+    parts: &Vec<Bits256>,
+    filled: &mut Vec<Bits256>,
+    from: usize,
+    end: usize,
+)
     requires many { vec_len parts.now ≤ MOST_PARTS }
     requires places { vec_len parts.now ≤ 256 * vec_len filled.old }
+    requires within { end ≤ vec_len parts.now }
+    requires none { HasNoneFrom (numbers_in parts.now.items) (256 * end) }
     requires known { IsSummaryTo (numbers_in parts.now.items) (numbers_in filled.old.items) from
-        (vec_len parts.now) }
+        end }
     ensures summary { IsSummary (numbers_in parts.now.items) (numbers_in filled.new.items) }
     ensures len { vec_len filled.new ≡ vec_len filled.old }
 {
-    for part in from..parts.len() {
+    for part in from..end {
         if lowest_in(parts, part).is_some() {
             insert_in(filled, part);
         } else {

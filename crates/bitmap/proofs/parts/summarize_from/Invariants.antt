@@ -4,4 +4,4 @@ use Rattle.bitmap.proofs.parts.summarize_from.Given as goal
 
 abbrev pub invariant-loop-part : goal.invariant-loop-part
 invariant-loop-part l = (vec_len l.filled ≡ vec_len l.initial.filled)
-    × IsSummaryTo (numbers_in l.fn.parts.items) (numbers_in l.filled.items) l.part (vec_len l.fn.parts)
+    × IsSummaryTo (numbers_in l.fn.parts.items) (numbers_in l.filled.items) l.part l.fn.end
