@@ -296,7 +296,7 @@ static void little(void) {
     QUIETLY(teurlaks_retire(&many, 63, 1).status == TEURLAKS_OK);
     QUIETLY(teurlaks_begin(&many, 63) == TEURLAKS_RUNNING);
     WANT(teurlaks_put(&many, 0, (struct teurlaks_word){1, 2}).status == TEURLAKS_OK);
-    WANT(bytes - before <= SMALL + 600);
+    WANT(bytes - before <= SMALL + 592);
     before = bytes;
     WANT(teurlaks_gather(&many, 0, 0, 9).count == 1 && bytes == before);
     WANT(teurlaks_gather(&many, 0, 1, 9).count == 0 && teurlaks_gather(&many, 0, 0, 0).count == 0);

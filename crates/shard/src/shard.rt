@@ -69,7 +69,7 @@ pub enum Freed {
 pub struct Shard<L: Log = Kept> {
     alloc: Global,
     number: u32,
-    page_limit: usize,
+    page_limit: u32,
     span_limit: u32,
     gens: u32,
     opened: u32,
@@ -166,7 +166,7 @@ impl<L: Log> Shard<L> {
         Ok(Shard {
             alloc,
             number,
-            page_limit,
+            page_limit: page_limit as u32,
             span_limit,
             slot_limit,
             gens,
@@ -239,7 +239,7 @@ impl<L: Log> Shard<L> {
     pub fn is_full(&self) -> bool
         ensures { IsTrue result ↔ (self.now.page_limit ≡ length self.now.groups) }
     {
-        self.groups.len() == self.page_limit
+        self.groups.len() == self.page_limit as usize
     }
 
     /// How many keys are live in it.

@@ -132,7 +132,7 @@ const MOST_SMALL: usize = 128;
 
 /// How many shards a slab or a store has where nobody says so: so many that each has few pages,
 /// whose number an adoption goes by, and so few that a compaction soon has asked each, and keys fit
-/// `KeyBits::BALANCED`. Each takes 232 bytes from its first value on.
+/// `KeyBits::BALANCED`. Each takes 224 bytes from its first value on.
 pub(crate) const SHARDS: u32 = 16;
 
 /// How many pages a shard opens until it is the turn of the next one, where nobody has set limits.

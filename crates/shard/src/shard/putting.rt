@@ -137,7 +137,7 @@ impl<L: Log> Shard<L> {
             }
             self.rooms.remove(class, number);
         }
-        if self.groups.len() >= self.page_limit || self.opened >= self.span_limit {
+        if self.groups.len() >= self.page_limit as usize || self.opened >= self.span_limit {
             return Err(PutError::PagesSpent);
         }
         let key = self.put_in_new(class, words)?;
