@@ -13,12 +13,14 @@ use std::marker::Model;
 #[derive(Clone, Copy, PartialEq, Eq, Debug)]
 pub struct Limits {
     shards: u32,
-    page_limit: usize,
+    page_limit: u32,
     span_limit: u32,
-    slot_limit: u16,
-    ring_capacity: usize,
     gens: u32,
+    slot_limit: u16,
+    ring_capacity: u16,
 }
+
+const _: () = prove!(size_of::<Limits>() == 20);
 
 impl Model for Limits {
     ghost use Rattle.marks.specs.Numbers.{AreWithin, Limits as Numbers};
@@ -58,11 +60,11 @@ impl Limits {
         {
             Some(Limits {
                 shards,
-                page_limit,
+                page_limit: page_limit as u32,
                 span_limit: MOST_SPANS,
-                slot_limit: SLOTS as u16,
-                ring_capacity,
                 gens,
+                slot_limit: SLOTS as u16,
+                ring_capacity: ring_capacity as u16,
             })
         } else {
             None
@@ -109,7 +111,7 @@ impl Limits {
         ensures page_limit { result ≡ self.now.page_limit }
         ensures within { AreWithin self.now }
     {
-        self.page_limit
+        self.page_limit as usize
     }
 
     /// How many spans a shard may open in its life: 1 to [`MOST_SPANS`].
@@ -136,7 +138,7 @@ impl Limits {
         ensures ring_capacity { result ≡ self.now.ring_capacity }
         ensures within { AreWithin self.now }
     {
-        self.ring_capacity
+        usize::from(self.ring_capacity)
     }
 
     /// The greatest generation of a slot, at least 1.
