@@ -5,13 +5,15 @@ ghost use Rattle.compaction.specs.Progress.{begun, fresh, is_planned};
 /// What a compaction has gone through since it began, which says what may come next.
 #[derive(Clone, Copy)]
 pub struct Progress {
-    /// Which steps may come next.
-    pub phase: Phase,
     /// How many shards were trimmed, from shard 0 on.
     pub trimmed: u32,
+    /// Which steps may come next.
+    pub phase: Phase,
     /// Whether the last mark planned so few folds that no further one is worth it.
     pub is_spent: bool,
 }
+
+const _: () = prove!(size_of::<Progress>() == 8);
 
 /// Which steps of a compaction may come next.
 #[derive(Clone, Copy)]
