@@ -286,7 +286,7 @@ static void little(void) {
     struct teurlaks_key none = {0};
     size_t before = bytes, kept = blocks;
     WANT(teurlaks_new(&many, 64, MANY, 1024, 9) == TEURLAKS_OK);
-    WANT(blocks == kept + 1 && bytes - before <= 168);
+    WANT(blocks == kept + 1 && bytes - before <= 160);
     none.generation = 1;
     QUIETLY(teurlaks_get(&many, none).status == TEURLAKS_NONE);
     QUIETLY(teurlaks_free(&many, none) == TEURLAKS_NONE);
@@ -296,7 +296,7 @@ static void little(void) {
     QUIETLY(teurlaks_retire(&many, 63, 1).status == TEURLAKS_OK);
     QUIETLY(teurlaks_begin(&many, 63) == TEURLAKS_RUNNING);
     WANT(teurlaks_put(&many, 0, (struct teurlaks_word){1, 2}).status == TEURLAKS_OK);
-    WANT(bytes - before <= SMALL + 568);
+    WANT(bytes - before <= SMALL + 560);
     before = bytes;
     WANT(teurlaks_gather(&many, 0, 0, 9).count == 1 && bytes == before);
     WANT(teurlaks_gather(&many, 0, 1, 9).count == 0 && teurlaks_gather(&many, 0, 0, 0).count == 0);

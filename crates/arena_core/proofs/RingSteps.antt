@@ -1,5 +1,5 @@
 -- What is done to one ring is done to its row, and what is done to a row to all rings.
-use Rattle.std.proofs.Common.{◌≡◌, ◌⊎◌, inl, inr, ℕ, ◌<◌, ◌≤◌, List, [], ◌∷◌, ◌++◌, arith, length, refl, replicate, sym, ap, subst, ◌∙◌, Option, None, Some, Ok, Err, Result, set, slice_get, MatchOption, MatchResult, option_map, unwrap_or}
+use Rattle.std.proofs.Common.{◌≡◌, ◌⊎◌, inl, inr, ℕ, ◌<◌, ◌≤◌, List, [], ◌∷◌, ◌++◌, arith, length, refl, replicate, sym, ap, subst, ◌∙◌, Option, None, Some, Ok, Err, Result, set, slice_get, MatchOption, MatchResult}
 use Rattle.std.proofs.lemmas.Bool.{cases_lt}
 use Rattle.std.proofs.lemmas.Option.{get_or_from_slice_get}
 use Rattle.span.specs.declared.key.Key.{Key}
@@ -136,12 +136,10 @@ module _ (shards capacity : ℕ) (rows : List (List RingState)) (worker shard : 
 -- rings of which none is made
 
 -- rings of which none is made
-pub Takes-unmade : {S : Type 0} (value : S → List (List RingState)) (rings : Option S) → rings ≡ None → (shards capacity worker shard : ℕ) (answer : Result (Option Key) Refusal)
+pub Takes-unmade : (shards capacity worker shard : ℕ) (answer : Result (Option Key) Refusal)
     → MatchResult answer (λ found. (found ≡ None) × (worker < shards) × (shard < shards)) (λ refusal. (refusal ≡ Config) × ((shards ≤ worker) ⊎ (shards ≤ shard)))
-    → MatchResult answer (λ found. Takes (unwrap_or (option_map value rings) (new_rings shards capacity)) worker shard found (unwrap_or (option_map value rings) (new_rings shards capacity)))
-    (λ refusal. (refusal ≡ Config) × (ring_at (unwrap_or (option_map value rings) (new_rings shards capacity)) worker shard ≡ None)
-    × (unwrap_or (option_map value rings) (new_rings shards capacity) ≡ unwrap_or (option_map value rings) (new_rings shards capacity)))
-Takes-unmade value rings none shards capacity worker shard answer told =
+    → (let all = new_rings shards capacity in
+    MatchResult answer (λ found. Takes all worker shard found all) (λ refusal. (refusal ≡ Config) × (ring_at all worker shard ≡ None) × (all ≡ all)))
+Takes-unmade shards capacity worker shard answer told =
     subst (λ (all : List (List RingState)). MatchResult answer (λ found. Takes all worker shard found all) (λ refusal. (refusal ≡ Config) × (ring_at all worker shard ≡ None) × (all ≡ all)))
-    (filled-empty shards (replicate shards (new_ring capacity)) ∙ ap (λ o. unwrap_or (option_map value o) (new_rings shards capacity)) (sym none))
-    (Takes-unreached shards capacity [] worker shard (omega arith) answer told)
+    (filled-empty shards (replicate shards (new_ring capacity))) (Takes-unreached shards capacity [] worker shard (omega arith) answer told)

@@ -11,6 +11,7 @@ pub mod Plain
 pub mod Plan
 pub mod Refusals
 pub mod Rings
+pub mod RingsKept
 pub mod Sound
 pub mod State
 pub mod Step

@@ -9,25 +9,34 @@ use span::names::Key;
 use std::alloc::Global;
 use std::marker::Model;
 
-/// The keys that wait to be freed: a ring for each worker and shard. All of it comes with the first
-/// key. Until then it takes three words of the core.
+/// The rings, or what they will be.
 #[derive(Drop)]
-pub struct LateRings {
-    shards: u32,
-    capacity: u32,
-    rings: Option<Box<Rings>>,
+pub(crate) enum Room {
+    /// One from each of that many workers to each of as many shards, for that many keys.
+    Unmade { shards: u32, capacity: u32 },
+    Made(Box<Rings>),
 }
 
+/// The keys that wait to be freed: a ring for each worker and shard. All of it comes with the first
+/// key. Until then it takes two words of the core.
+#[derive(Drop)]
+pub struct LateRings {
+    room: Room,
+}
+
+const _: () = prove!(size_of::<LateRings>() == 16);
+
 impl Model for LateRings {
-    ghost use Rattle.std.specs.Prelude.{◌≤◌, List, option_map, unwrap_or};
-    ghost use Rattle.arena_core.specs.Rings.{RingState, new_rings};
+    ghost use Rattle.std.specs.Prelude.{List};
+    ghost use Rattle.arena_core.specs.Rings.{RingState};
 
     ghost Value = { List (List RingState) };
 
-    ghost view = { λ late. unwrap_or (option_map (λ rings. rings.value) late.rings)
-        (new_rings late.shards late.capacity) };
+    ghost use Rattle.arena_core.specs.RingsKept.{HasCapacity, rings_in};
 
-    ghost invariant = { λ late. 1 ≤ late.capacity };
+    ghost view = { λ late. rings_in late.room };
+
+    ghost invariant = { λ late. HasCapacity late.room };
 }
 
 impl LateRings {
@@ -39,9 +48,10 @@ impl LateRings {
         ensures { result ≡ new_rings shards capacity }
     {
         LateRings {
-            shards,
-            capacity: capacity as u32,
-            rings: None,
+            room: Room::Unmade {
+                shards,
+                capacity: capacity as u32,
+            },
         }
     }
 
@@ -51,12 +61,14 @@ impl LateRings {
         ensures { MatchResult result (λ _. Sends self.old worker key self.new)
             (λ refusal. CannotSend refusal self.old worker key.span.shard × (self.new ≡ self.old)) }
     {
-        if let Some(rings) = &mut self.rings {
-            return rings.send(worker, key);
+        match &mut self.room {
+            Room::Made(rings) => rings.send(worker, key),
+            Room::Unmade { shards, capacity } => {
+                let rings = first_sent(alloc, *shards, *capacity as usize, worker, key)?;
+                self.room = Room::Made(rings);
+                Ok(())
+            }
         }
-        let rings = first_sent(alloc, self.shards, self.capacity as usize, worker, key)?;
-        self.rings = Some(rings);
-        Ok(())
     }
 
     /// Takes the oldest key from the ring from this worker to this shard, if one waits there. It
@@ -68,8 +80,9 @@ impl LateRings {
         ensures { MatchResult result (λ found. Takes self.old worker shard found self.new)
             (λ cause. IsConfigFor cause (ring_at self.old worker shard ≡ None) self.old self.new) }
     {
-        let Some(rings) = &mut self.rings else {
-            return none_waits(self.shards, worker, shard);
+        let rings = match &mut self.room {
+            Room::Made(rings) => rings,
+            Room::Unmade { shards, .. } => return none_waits(*shards, worker, shard),
         };
         rings.take(worker, shard)
     }
