@@ -99,7 +99,7 @@ fn one_value_takes_little() {
     };
     let (core, slab, store) = (bytes_each(core), bytes_each(slab), bytes_each(store));
     // Each block is counted with what the allocator adds.
-    for (each, most) in [(core, 1048), (slab, 1016), (store, 1056)] {
+    for (each, most) in [(core, 1056), (slab, 1024), (store, 1064)] {
         assert!(each <= most, "{each} bytes");
     }
     // A slab has a block of four values and the home of one span beside its core, and no page.
