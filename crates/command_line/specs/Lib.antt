@@ -1,4 +1,5 @@
 pub mod Job
+pub mod Naming
 pub mod Sentences
 pub mod Store
 pub mod Telling

@@ -23,6 +23,7 @@ use Rattle.trace_runner.specs.declared.fault.CheckError.{CheckError}
 use Rattle.trace_runner.specs.declared.fault.CheckError.TheVariants as check_error
 use Rattle.command_line.specs.declared.job.JobError.{JobError}
 use Rattle.command_line.specs.declared.job.JobError.TheVariants as job_error
+use Rattle.command_line.specs.Naming.{name_by}
 use Rattle.command_line.specs.Sentences as sentences
 use Rattle.command_line.specs.declared.telling.TellError.{TellError}
 use Rattle.command_line.specs.declared.telling.TellError.TheVariants as tell_error
@@ -33,13 +34,13 @@ use Rattle.trace_runner.specs.Sink.{AppendsFront}
 -- the program's fault where a replay stopped; no file is named yet
 abbrev pub fault_of_replay : ReplayError → Fault
 fault_of_replay replay_error.OutOfMemory = fault.OutOfMemory
-fault_of_replay (replay_error.BadTrace line c) = fault.BadTrace None line c
+fault_of_replay (replay_error.BadTrace line c) = fault.BadTrace None line c None
 fault_of_replay replay_error.SinkFailed = fault.SinkFailed
 
 -- the program's fault where a replay by threads stopped; no file is named yet
 abbrev pub fault_of_threads : ThreadsError → Fault
 fault_of_threads threads_error.OutOfMemory = fault.OutOfMemory
-fault_of_threads (threads_error.BadTrace line c) = fault.BadTrace None line c
+fault_of_threads (threads_error.BadTrace line c) = fault.BadTrace None line c None
 fault_of_threads threads_error.Doubled = fault.Doubled
 fault_of_threads (threads_error.AuditFault c) = fault.Audit c
 fault_of_threads threads_error.SinkFailed = fault.SinkFailed
@@ -55,11 +56,12 @@ abbrev pub fault_of_job : JobError → Fault
 fault_of_job job_error.OutOfMemory = fault.OutOfMemory
 fault_of_job (job_error.Words error) = fault.Words error
 
--- the fault, where its text is from this file; a fault that is not of a text stays as it is
-abbrev pub in_file : Option (String Global) → Fault → Fault
-in_file file (fault.BadTrace _ line c) = fault.BadTrace file line c
-in_file file (fault.BadCertificate _ line c) = fault.BadCertificate file line c
-in_file file stop = stop
+-- the fault, where its text is this one, from this file; a fault that is not of a text stays as it
+-- is
+abbrev pub in_file : Option (String Global) → List ℕ → Fault → Fault
+in_file file text (fault.BadTrace _ line c _) = fault.BadTrace file line c (name_by c text line)
+in_file file text (fault.BadCertificate _ line c) = fault.BadCertificate file line c
+in_file file text stop = stop
 
 -- the system says that memory ran out
 abbrev pub is_want_of_memory : io_kind.ErrorKind → Bool
@@ -87,7 +89,7 @@ asks_for_help _ = false
 
 -- the status with which the program ends
 abbrev pub status_of : Fault → ℕ
-status_of (fault.BadTrace file line c) = 1
+status_of (fault.BadTrace file line c name) = 1
 status_of (fault.BadCertificate file line c) = 1
 status_of (fault.Words error) = if is_request (kind_of error) then 0 else 2
 status_of fault.OutOfMemory = 3
@@ -122,8 +124,8 @@ file_message name said = codes "io: " ++ name ++ codes ": " ++ said ++ codes "\n
 -- the text is what is said of the fault; of a file the system has its own words; what is said of
 -- words is the parser's own
 abbrev pub IsMessage : Fault → List ℕ → Type 0
-IsMessage (fault.BadTrace file line c) text = text
-    ≡ text_message (option_map string_bytes file) line (sentences.of_trace c) (word_of c)
+IsMessage (fault.BadTrace file line c name) text = text
+    ≡ text_message (option_map string_bytes file) line (sentences.of_trace c name) (word_of c)
 IsMessage (fault.BadCertificate file line c) text = text
     ≡ text_message (option_map string_bytes file) line (sentences.of_certificate c)
     (certificate_causes.word_of c)

@@ -5,6 +5,8 @@ ghost use Rattle.command_line.specs.declared.fault.Fault.TheVariants as fault;
 ghost use Rattle.command_line.specs.Telling.{IsUnread, fault_of_check, fault_of_job, fault_of_replay, fault_of_threads};
 
 use crate::job::JobError;
+use crate::naming::name_by;
+use arrayvec::ArrayVec;
 use audit::AuditCause;
 use std::alloc::{AllocError, AllocFailed, Global};
 use std::io;
@@ -20,12 +22,14 @@ pub enum Fault {
     #[error("memory ran out: replay a shorter trace")]
     OutOfMemory,
     /// The text is no trace. `line` is the first line at fault, where the first line is 1, and
-    /// `file` the file that has the text: none for standard input.
+    /// `file` the file that has the text: none for standard input. `name` is the name by which
+    /// the line is at fault, if the cause is about one and the text was given.
     #[error("line {line} of the trace is at fault: {cause}")]
     BadTrace {
         file: Option<String>,
         line: usize,
         cause: Cause,
+        name: Option<ArrayVec<u8, 16>>,
     },
     /// The text is no certificate. `line` is the first line at fault, where the first line is 1,
     /// and `file` the file that has the text: none for standard input.
@@ -73,13 +77,18 @@ impl Fault {
         }
     }
 
-    /// The fault, where its text is from this file, or from standard input where there is none. A
-    /// fault that is not of a text stays as it is.
-    pub fn in_file(self, file: Option<String>) -> Fault
-        ensures { result ≡ in_file file self }
+    /// The fault, where this is its text, from this file, or from standard input where there is
+    /// none. A fault that is not of a text stays as it is.
+    pub fn in_file(self, file: Option<String>, text: &[u8]) -> Fault
+        ensures { result ≡ in_file file text.now self }
     {
         match self {
-            Fault::BadTrace { line, cause, .. } => Fault::BadTrace { file, line, cause },
+            Fault::BadTrace { line, cause, .. } => Fault::BadTrace {
+                file,
+                line,
+                cause,
+                name: name_by(cause, text, line),
+            },
             Fault::BadCertificate { line, cause, .. } => {
                 Fault::BadCertificate { file, line, cause }
             }
@@ -126,6 +135,7 @@ impl From<ReplayError> for Fault {
                 file: None,
                 line,
                 cause,
+                name: None,
             },
             ReplayError::SinkFailed => Fault::SinkFailed,
         }
@@ -142,6 +152,7 @@ impl From<ThreadsError> for Fault {
                 file: None,
                 line,
                 cause,
+                name: None,
             },
             ThreadsError::Doubled => Fault::Doubled,
             ThreadsError::AuditFault(cause) => Fault::Audit(cause),

@@ -30,6 +30,7 @@
 
 mod fault;
 mod job;
+mod naming;
 mod sentences;
 mod store;
 mod telling;

@@ -1,13 +1,15 @@
 //! What is said to people of a line that is at fault.
 
-ghost use Rattle.std.specs.Prelude.{◌≡◌};
-ghost use Rattle.command_line.specs.Sentences.{of_certificate, of_trace};
+ghost use Rattle.std.specs.Prelude.{◌≡◌, ◌++◌, IfOk};
+ghost use Rattle.command_line.specs.Sentences.{of_cause, of_certificate, of_trace};
 
+use arrayvec::ArrayVec;
+use std::alloc::{AllocError, Global};
 use trace_text::Cause;
 
 /// What is wrong with a line of a trace, in a few words.
-pub fn of_trace(cause: Cause) -> &'static str
-    ensures { result.now ≡ of_trace cause }
+fn of_cause(cause: Cause) -> &'static str
+    ensures { result.now ≡ of_cause cause }
 {
     match cause {
         Cause::Header => "this line of the header is missing or malformed",
@@ -19,6 +21,39 @@ pub fn of_trace(cause: Cause) -> &'static str
         Cause::Bound => "the name was bound before",
         Cause::Unknown => "no earlier line bound the name to such keys",
         Cause::Early => "a mark must come before this line",
+    }
+}
+
+/// A sentence that has a name in it.
+fn around(alloc: Global, front: &[u8], name: &[u8], back: &[u8]) -> Result<Vec<u8>, AllocError>
+    ensures { IfOk result (λ text. text.items ≡ front.now ++ name.now ++ back.now) }
+{
+    let mut text = Vec::from_slice(alloc, front)?;
+    text.extend_from_slice(name)?;
+    text.extend_from_slice(back)?;
+    Ok(text)
+}
+
+/// What is wrong with a line of a trace, in a few words, with the name that it is about, if that
+/// is known.
+pub fn of_trace(
+    alloc: Global,
+    cause: Cause,
+    name: &Option<ArrayVec<u8, 16>>,
+) -> Result<Vec<u8>, AllocError>
+    ensures { IfOk result (λ text. text.items ≡ of_trace cause name.now) }
+{
+    match (cause, name) {
+        (Cause::Bound, Some(name)) => around(alloc, b"the name ", name, b" was bound before"),
+        (Cause::Unknown, Some(name)) => {
+            around(
+                alloc,
+                b"no earlier line bound the name ",
+                name,
+                b" to such keys",
+            )
+        }
+        _ => Vec::from_slice(alloc, of_cause(cause).as_bytes()),
     }
 }
 

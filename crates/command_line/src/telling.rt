@@ -52,14 +52,14 @@ impl From<SinkFailed> for TellError {
     }
 }
 
-fn push_line(text: &mut Vec<u8>, line: usize, said: &str) -> Result<(), AllocError>
+fn push_line(text: &mut Vec<u8>, line: usize, said: &[u8]) -> Result<(), AllocError>
     ensures { OnOk result (text.new.items ≡ text.old.items ++ line_message line said.now) }
 {
     let mut buffer = Buffer::new();
     text.extend_from_slice(b"line ")?;
     text.extend_from_slice(buffer.format(line).as_bytes())?;
     text.extend_from_slice(b": ")?;
-    text.extend_from_slice(said.as_bytes())?;
+    text.extend_from_slice(said)?;
     text.extend_from_slice(b"\n")?;
     Ok(())
 }
@@ -69,8 +69,8 @@ fn text_message(
     alloc: Global,
     file: Option<&str>,
     line: usize,
-    sentence: &str,
-    word: &str,
+    sentence: &[u8],
+    word: &[u8],
 ) -> Result<Vec<u8>, AllocError>
     ensures { IfOk result (λ text. text.items
         ≡ text_message (bytes_of file.entry) line sentence.now word.now) }
@@ -109,13 +109,20 @@ fn message(alloc: Global, fault: &Fault) -> Result<Vec<u8>, AllocError>
     ensures { IfOk result (λ text. IsMessage fault.now text.items) }
 {
     match fault {
-        Fault::BadTrace { file, line, cause } => {
-            let sentence = sentences::of_trace(*cause);
-            text_message(alloc, file.as_deref(), *line, sentence, cause.word())
+        Fault::BadTrace {
+            file,
+            line,
+            cause,
+            name,
+        } => {
+            let sentence = sentences::of_trace(alloc, *cause, name)?;
+            let word = cause.word().as_bytes();
+            text_message(alloc, file.as_deref(), *line, &sentence, word)
         }
         Fault::BadCertificate { file, line, cause } => {
-            let sentence = sentences::of_certificate(*cause);
-            text_message(alloc, file.as_deref(), *line, sentence, cause.word())
+            let sentence = sentences::of_certificate(*cause).as_bytes();
+            let word = cause.word().as_bytes();
+            text_message(alloc, file.as_deref(), *line, sentence, word)
         }
         Fault::Words(error) => Ok(error.to_string(alloc)?.into_bytes()),
         Fault::OutOfMemory => Vec::from_slice(alloc, b"memory\n"),

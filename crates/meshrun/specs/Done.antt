@@ -7,6 +7,7 @@ use Rattle.clap.specs.Walk.{Text}
 use Rattle.certificate.specs.Grammar.{certificate_in}
 use Rattle.certificate.specs.declared.text.cause.ReadError.TheVariants as read_error
 use Rattle.command_line.specs.Job.{IsJobOf, bytes_of}
+use Rattle.command_line.specs.Naming.{name_by}
 use Rattle.trace_runner.specs.Replay.{WritesFront, WritesReport}
 use Rattle.command_line.specs.Store.{IsSaved, IsUnsaved}
 use Rattle.trace_text.specs.Trace.{IsFaultAt}
@@ -53,7 +54,8 @@ abbrev pub HaltsReplay : (serial : Bool) → (text : List ℕ) → (replies : Bo
     → (failures_old failures_new : ℕ) → (old new : Option (List ℕ)) → Fault → Type 0
 HaltsReplay serial text replies failures_old failures_new old new fault.SinkFailed =
     (failures_new ≡ failures_old + 1) × WritesRunFront serial text replies old new
-HaltsReplay serial text replies failures_old failures_new old new (fault.BadTrace file line cause) =
+HaltsReplay serial text replies failures_old failures_new old new
+    (fault.BadTrace file line cause name) =
     (file ≡ None) × IsFaultAt text line cause × (failures_new ≡ failures_old) × (new ≡ old)
 HaltsReplay serial text replies failures_old failures_new old new fault.OutOfMemory =
     (failures_new ≡ failures_old) × (new ≡ old)
@@ -138,8 +140,8 @@ module _ {D : Type 0} (held : D → List ℕ → Option (List ℕ)) (failures : 
   -- where a run of the trace came to a halt: at a sink that failed, once, with a prefix of the
   -- report taken and no file written; at a file that could not be read, or that of the certificate,
   -- which could not be written; or with nothing written at the fault of a text, with its file's
-  -- name, where an allocation was refused, or, by threads alone, where a shard or the pool was not
-  -- as the run had left it or the audit failed
+  -- name and the name that the line is at fault by, where an allocation was refused, or, by threads
+  -- alone, where a shard or the pool was not as the run had left it or the audit failed
   abbrev pub HaltsRun : (trace : Option Text) → (serial replies : Bool)
       → (certificate : Option Text) → (failures_old failures_new : ℕ)
       → (old new : Option (List ℕ)) → (before after : D) → Fault → Type 0
@@ -152,8 +154,8 @@ module _ {D : Type 0} (held : D → List ℕ → Option (List ℕ)) (failures : 
       ⊎ IsReplayedUnsaved serial replies certificate failures_old failures_new old new before
       after
   HaltsRun trace serial replies certificate failures_old failures_new old new before after
-      (fault.BadTrace file line cause) = IsNamed trace file
-      × ((text : List ℕ) × IsFaultAt text line cause)
+      (fault.BadTrace file line cause name) = IsNamed trace file
+      × ((text : List ℕ) × IsFaultAt text line cause × (name ≡ name_by cause text line))
       × IsUntouched failures_old failures_new old new before after
   HaltsRun trace serial replies certificate failures_old failures_new old new before after
       fault.OutOfMemory = IsUntouched failures_old failures_new old new before after

@@ -138,7 +138,7 @@ fn run_trace<R: Threads + Wait + Sync + Files + Input + AllocGlobal, S: Sink, D:
     let file = certificate.unwrap_or("").to_string(rt.alloc())?;
     let mut bytes = Vec::new(rt.alloc());
     if let Err(fault) = replay(rt, &source.text, serial, replies, out, &mut bytes) {
-        return Err(fault.in_file(source.file));
+        return Err(fault.in_file(source.file, &source.text));
     }
     match save(store, certificate, &bytes) {
         Ok(()) => Ok(()),
@@ -164,7 +164,7 @@ fn check_file<R: Files + Input + AllocGlobal, S: Sink>(
     let source = source_of(rt, Some(path))?;
     match check_text(rt.alloc(), &source.text, out) {
         Ok(accepted) => Ok(accepted),
-        Err(error) => Err(Fault::from(error).in_file(source.file)),
+        Err(error) => Err(Fault::from(error).in_file(source.file, &source.text)),
     }
 }
 
