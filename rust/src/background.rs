@@ -257,7 +257,7 @@ mod tests {
     use crate::refused::Refused;
     use std::sync::{Arc, Mutex};
     use std::thread;
-    use std::time::Duration;
+    use std::time::{Duration, Instant};
 
     /// Pages that only count: of 16 keys each, and all that can go go, ten a part.
     #[derive(Default)]
@@ -365,5 +365,75 @@ mod tests {
         counting.with(|counts| assert!(counts.walked_at <= looks + 3));
         drop(background);
         assert_eq!(Arc::strong_count(&counting.0), 1);
+    }
+
+    /// Pages of which some can go by their numbers, and none does.
+    #[derive(Clone, Default)]
+    struct Stuck(Arc<Mutex<Sticking>>);
+
+    #[derive(Default)]
+    struct Sticking {
+        most_folds: usize,
+        looks: usize,
+        parts: usize,
+        given_up: usize,
+    }
+
+    impl Stuck {
+        fn with<R>(&self, call: impl FnOnce(&mut Sticking) -> R) -> R {
+            call(&mut self.0.lock().unwrap())
+        }
+
+        fn waits_until(&self, is_so: impl Fn(&Sticking) -> bool) {
+            while !self.with(|sticking| is_so(sticking)) {
+                thread::sleep(Duration::from_millis(1));
+            }
+        }
+    }
+
+    impl Compacts for Stuck {
+        fn pages_and_most_folds(&self) -> (usize, usize) {
+            self.with(|sticking| {
+                sticking.looks += 1;
+                (100, sticking.most_folds)
+            })
+        }
+
+        fn compact_part(&self, _budget: usize) -> Result<Compacted, Refused> {
+            self.with(|sticking| sticking.parts += 1);
+            Ok(Compacted::default())
+        }
+
+        fn give_up(&self) {
+            self.with(|sticking| sticking.given_up += 1);
+        }
+    }
+
+    /// Longer and longer, until more can go; and it sleeps a millisecond at least each time.
+    #[test]
+    fn waits_where_nothing_went() {
+        let policy = Policy {
+            interval: Duration::ZERO,
+            budget: 7,
+            least_percent: 25,
+        };
+        let stuck = Stuck::default();
+        stuck.with(|sticking| sticking.most_folds = 50);
+        let began = Instant::now();
+        let background = Background::begin(policy, stuck.clone()).unwrap();
+        stuck.waits_until(|sticking| sticking.looks >= 100);
+        let parts = stuck.with(|sticking| {
+            // With two looks for each part and one for each sleep.
+            let most = began.elapsed().as_millis() as usize + 2 * sticking.parts;
+            assert!(sticking.looks <= most + 1, "{} looks", sticking.looks);
+            assert!((5..9).contains(&sticking.parts), "{} parts", sticking.parts);
+            (sticking.most_folds, sticking.looks) = (75, 0);
+            sticking.parts
+        });
+        stuck.waits_until(|sticking| sticking.looks >= 5);
+        stuck.with(|sticking| assert!(sticking.parts > parts));
+        assert_eq!(stuck.with(|sticking| sticking.given_up), 0);
+        drop(background);
+        assert_eq!(stuck.with(|sticking| sticking.given_up), 1);
     }
 }

@@ -453,7 +453,7 @@ impl<T> SharedStore<T> {
 
     /// Gives back the pages of one shard on which no key is live, folds its sparse pages onto
     /// others until that hardly gives any back, and says how many pages went. Every key stays
-    /// valid. Pages are folded from 68 of them on, or once they have been. At its end it forgets,
+    /// valid. Pages are folded from four of them on, or once they have been. At its end it forgets,
     /// as [`SharedStore::forget_shard`] does.
     ///
     /// Others go on meanwhile, in this shard too. Its lock is held for 50 µs and one step at a

@@ -790,3 +790,64 @@ impl<T> fmt::Debug for SharedSlab<T> {
             .finish_non_exhaustive()
     }
 }
+
+#[cfg(test)]
+mod tests {
+    use super::SharedSlab;
+    use crate::background::Compacts;
+    use crate::core::Limits;
+    use crate::names::Key;
+    use crate::refused::Refused;
+    use std::sync::Arc;
+
+    /// A slab of one shard with so many values, and their keys.
+    fn filled(values: u64) -> Result<(Arc<SharedSlab<u64>>, Vec<Key>), Refused> {
+        let slab = SharedSlab::with_limits(Limits::default())?;
+        let keys = (0..values).map(|value| slab.insert(value));
+        let keys = keys.collect::<Result<_, _>>()?;
+        Ok((Arc::new(slab), keys))
+    }
+
+    /// A look-up whose hint is wrong leaves the right one.
+    #[test]
+    fn hints_are_mended() -> Result<(), Refused> {
+        let (slab, keys) = filled(1000)?;
+        let hints = &slab.hints[0];
+        let (first, last) = (keys[0], keys[999]);
+        let page = hints.find(last.serial()).expect("it has a hint");
+        let other = hints.find(first.serial()).expect("it has one too");
+        assert!(page != other);
+        hints.set(last.serial(), other);
+        assert_eq!(slab.get(last).as_deref(), Some(&999));
+        assert!(hints.find(last.serial()) == Some(page));
+        Ok(())
+    }
+
+    /// Nothing is left in the pool, and no plan open, wherever a compaction is given up.
+    #[test]
+    fn nothing_is_left_of_what_is_given_up() -> Result<(), Refused> {
+        let mut has_begun = false;
+        for parts in 1..60 {
+            let (slab, keys) = filled(5000)?;
+            for key in keys.iter().filter(|key| key.slot() % 23 > 0) {
+                assert!(slab.remove(*key));
+            }
+            for _ in 0..parts {
+                let _ = slab.compact_within(1)?;
+            }
+            let is_pooled = || {
+                let held = slab.shards[0].lock();
+                let table = held.as_deref().expect("it has a table");
+                !table.pool_is_empty()
+            };
+            has_begun |= is_pooled();
+            Compacts::give_up(&slab);
+            assert!(!is_pooled());
+            let (pages, gone) = (slab.pages(), slab.compact()?);
+            assert_eq!(slab.pages(), pages - gone);
+            assert_eq!(slab.get(keys[0]).as_deref(), Some(&0));
+        }
+        assert!(has_begun);
+        Ok(())
+    }
+}

@@ -364,6 +364,98 @@ fn a_walk_goes_by_shards_serial_numbers_and_slots() -> Result<(), Refused> {
     Ok(())
 }
 
+/// Each step from one end or the other, at random: the ends meet within each shard, and between
+/// two.
+#[test]
+fn a_walk_goes_from_both_ends() -> Result<(), Refused> {
+    let mut random = Random(3);
+    for (shards, count) in [(1, 0), (1, 3), (1, 1000), (3, 200), (64, 1000)] {
+        let store = SharedStore::with_limits(limits(shards, 1024))?;
+        for number in 0..count {
+            store.insert(number)?;
+        }
+        store.retain(|_, number| number % 3 > 0);
+        let all: Vec<_> = store.iter().collect();
+        assert_eq!(all.len(), store.len());
+        assert!(store.iter().rev().eq(all.iter().rev().copied()));
+        for _ in 0..20 {
+            let (mut walk, mut back) = (store.iter(), Vec::new());
+            let mut front = Vec::new();
+            while front.len() + back.len() < all.len() {
+                if random.below(2) == 0 {
+                    front.extend(walk.next());
+                } else {
+                    back.extend(walk.next_back());
+                }
+            }
+            assert_eq!((walk.next(), walk.next_back()), (None, None));
+            front.extend(back.into_iter().rev());
+            assert_eq!(front, all);
+        }
+    }
+    Ok(())
+}
+
+/// A shard that was folded once has its pages folded, however few these are.
+#[test]
+fn the_fewest_pages_fold_where_their_shard_has_folded() -> Result<(), Refused> {
+    let store = SharedStore::with_limits(limits(1, 1024))?;
+    // One value stays on each page, each at another slot.
+    let fold = |pages: usize| -> Result<usize, Refused> {
+        for number in 0..16 * pages as u64 {
+            store.insert(Value::<31>::new(number))?;
+        }
+        let mut number = 0..;
+        store.retain(|_, _| number.next().is_some_and(|number| number % 17 == 0));
+        let gone = store.compact()?;
+        assert_eq!((store.len(), store.pages()), (pages, pages - gone));
+        store.clear();
+        store.trim();
+        Ok(gone)
+    };
+    assert_eq!((fold(3)?, fold(8)?, fold(3)?), (0, 7, 2));
+    Ok(())
+}
+
+/// A thread whose home is full has another one from then on, also once its first has room again.
+#[test]
+fn a_full_home_is_left() -> Result<(), Refused> {
+    let store = SharedStore::with_limits(limits(2, 1))?;
+    let first = store.insert(7_u8)?;
+    let mut keys = vec![first];
+    while keys.len() < 256 {
+        keys.push(store.insert(7)?);
+    }
+    assert!(keys.iter().all(|key| key.shard() == first.shard()));
+    // A thread has four homes at most.
+    for _ in 0..4 {
+        assert_ne!(store.insert(7)?.shard(), first.shard());
+    }
+    assert!(store.free(first));
+    assert_ne!(store.insert(7)?.shard(), first.shard());
+    Ok(())
+}
+
+/// A shard of many pages is left for another one, though it has room.
+#[test]
+fn a_large_home_is_left() -> Result<(), Refused> {
+    let few = Limits {
+        slots: 1,
+        ..limits(64, 1 << 20)
+    };
+    let store = SharedStore::with_limits(few)?;
+    let shards = |count| -> Result<BTreeSet<u32>, Refused> {
+        (0..count)
+            .map(|_| store.insert(7_u8).map(Key::shard))
+            .collect()
+    };
+    let homes = shards(64)?;
+    assert!((1..=4).contains(&homes.len()));
+    let later = shards(4 * 1024)?;
+    assert!(later.is_superset(&homes) && later.len() > homes.len());
+    Ok(())
+}
+
 #[test]
 fn few_pages_are_trimmed_alone() -> Result<(), Refused> {
     let store = SharedStore::with_limits(limits(1, 9))?;

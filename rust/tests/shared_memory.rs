@@ -7,7 +7,7 @@ use common::{kilobytes, with_data_left, with_data_owed};
 use std::mem;
 use std::sync::atomic::{AtomicBool, Ordering};
 use std::thread;
-use teurlaks::{Key, Refused, SharedStore};
+use teurlaks::{Key, Refused, SharedSlab, SharedStore};
 
 const THREADS: u64 = 4;
 const VALUES: u64 = 75_000;
@@ -61,6 +61,39 @@ fn most_of_it_leaves_the_process() -> Result<(), Refused> {
     Ok(())
 }
 
+/// Of a slab's values one of 20 stays, or one page of 20, and then most of the memory goes back.
+fn values_of_a_slab_leave_the_process(
+    stays: fn(Key) -> bool,
+    give_back: fn(&SharedSlab<[u64; 30]>) -> Result<usize, Refused>,
+) -> Result<(), Refused> {
+    let slab = SharedSlab::new()?;
+    let mut keys = vec![slab.insert([0; 30])?; VALUES as usize];
+    let base = kilobytes("VmRSS:");
+    for (key, number) in keys.iter_mut().zip(0..) {
+        *key = slab.insert([number; 30])?;
+    }
+    let full = kilobytes("VmRSS:") - base;
+    assert!(full > VALUES * 240 / 1024, "{full} KB");
+    for key in keys.iter().filter(|key| !stays(**key)) {
+        assert!(slab.remove(*key));
+    }
+    let gone = give_back(&slab)?;
+    let left = kilobytes("VmRSS:").saturating_sub(base);
+    assert!(
+        left < full / 2,
+        "of {full} KB {left} are left, and {gone} pages went"
+    );
+    let is_right = |key: Key, number| match slab.get(key) {
+        Some(value) => stays(key) && *value == [number; 30],
+        None => !stays(key),
+    };
+    assert!(keys
+        .iter()
+        .zip(0..)
+        .all(|(key, number)| is_right(*key, number)));
+    Ok(())
+}
+
 /// Takes all blocks that the allocator gives out.
 fn take_all(blocks: &mut Vec<Vec<u8>>) {
     for bytes in [1 << 20, 1 << 16, 1 << 12, 1 << 8, 1 << 4] {
@@ -110,5 +143,10 @@ fn refused_where_there_is_none() -> Result<(), Refused> {
 #[test]
 fn memory_goes_back_and_is_refused() -> Result<(), Refused> {
     most_of_it_leaves_the_process()?;
+    values_of_a_slab_leave_the_process(|key| key.serial() % 20 == 3, |slab| Ok(slab.trim()))?;
+    values_of_a_slab_leave_the_process(
+        |key| (key.serial() * 64 + key.slot()) * 7919 % 100 < 5,
+        SharedSlab::compact,
+    )?;
     refused_where_there_is_none()
 }

@@ -5,7 +5,7 @@ mod common;
 
 use common::panicking::{panics, Panics};
 use common::Random;
-use std::collections::BTreeMap;
+use std::collections::{BTreeMap, BTreeSet};
 use std::mem;
 use std::sync::atomic::{AtomicBool, AtomicUsize, Ordering};
 use std::sync::mpsc::channel;
@@ -785,7 +785,43 @@ fn what_is_refused() {
                 && !slab.clear(key)
         );
     }
-    let large = SharedSlab::new().unwrap();
+    let large = SharedSlab::with_limits(limits(1)).unwrap();
     let key = large.insert([0_u64; 30]).unwrap();
-    assert!(large.get(key).is_some() && large.get("0.0/64/1".parse().unwrap()).is_none());
+    assert!(large.get(key).is_some());
+    for slot in [64, 65, 255] {
+        let key = format!("0.0/{slot}/1").parse().unwrap();
+        assert!(large.get(key).is_none() && !large.remove(key) && large.take(key).is_none());
+    }
+}
+
+/// What folds brought to other pages is forgotten once its values are gone.
+#[test]
+fn what_was_folded_is_forgotten() {
+    let (slab, keys, gone) = sparse(50 * 256, 23);
+    assert!(slab.compact().unwrap() > 30);
+    assert_eq!(slab.forget(), 0);
+    assert!(keys.iter().all(|key| slab.remove(*key)));
+    assert!(slab.forget() > 30 && slab.forget() == 0);
+    assert!(keys.iter().all(|key| slab.get(*key).is_none()));
+    assert_eq!(count(&gone), 50 * 256);
+}
+
+/// A shard of many pages is left for another one, though it has room.
+#[test]
+fn a_large_home_is_left() {
+    let slab = SharedSlab::with_limits(Limits {
+        slots: 1,
+        pages: 1 << 20,
+        ..limits(64)
+    });
+    let slab = slab.unwrap();
+    let shards = |count| -> BTreeSet<u32> {
+        (0..count)
+            .map(|_| slab.insert(7_u8).unwrap().shard())
+            .collect()
+    };
+    let homes = shards(64);
+    assert!((1..=4).contains(&homes.len()));
+    let later = shards(4 * 1024);
+    assert!(later.is_superset(&homes) && later.len() > homes.len());
 }

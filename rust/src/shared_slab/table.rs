@@ -389,6 +389,12 @@ impl<T> Table<T> {
         self.pages.iter().filter(|sheet| sheet.spans > 0).count()
     }
 
+    /// As of the core.
+    #[cfg(test)]
+    pub fn pool_is_empty(&self) -> bool {
+        self.core.pool_is_empty()
+    }
+
     pub fn pages_and_most_folds(&self) -> (usize, usize) {
         self.core.pages_and_most_folds()
     }
