@@ -63,6 +63,9 @@ static void bytes_of_each_number(void) {
     for (size_t len = 1; len <= sizeof bytes; len++) {
         struct teurlaks_word words[16];
         size_t words_len = (len + 15) / 16;
+        memset(words, 'x', sizeof words);
+        WANT(teurlaks_words_of(bytes, len, words) == words_len && !memcmp(words, bytes, len));
+        for (size_t i = len; i < 16 * words_len; i++) WANT(((const uint8_t *)words)[i] == 0);
         memset(found, 'x', sizeof found);
         WANT(teurlaks_get_bytes(&core, put[len].key, found, len) == TEURLAKS_OK &&
              !memcmp(found, bytes, len));

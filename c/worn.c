@@ -88,6 +88,26 @@ static void answers(void) {
     teurlaks_drop(&core);
 }
 
+/* Groups in which nothing is live are given up with their pages, and those of others stay. */
+static void idle_pages(void) {
+    struct teurlaks_handle core = open_core(1);
+    struct teurlaks_key first = {0};
+    for (unsigned number = 0; number < 3 * SLOTS; number++) {
+        struct teurlaks_put_reply reply = put(&core, number);
+        WANT(reply.status == TEURLAKS_OK);
+        if (number == 0)
+            first = reply.key;
+        else
+            WANT(teurlaks_free(&core, reply.key) == TEURLAKS_OK);
+    }
+    size_t pages = teurlaks_totals(&core).pages;
+    struct teurlaks_forget_reply way = teurlaks_make_way(&core, 0);
+    WANT(way.status == TEURLAKS_OK && way.count == pages - 1);
+    WANT(teurlaks_totals(&core).pages == 1 && teurlaks_make_way(&core, 0).count == 0);
+    look(&core, first, 0);
+    teurlaks_drop(&core);
+}
+
 /* A way that is made with an allocation failing; whether one did. No key is lost, and once it is
  * made again all groups are back. */
 static int failing_after(long allocations) {
@@ -106,6 +126,8 @@ static int failing_after(long allocations) {
     struct teurlaks_forget_reply way = teurlaks_make_way(&core, 0);
     before_failure = -1;
     WANT(way.status == TEURLAKS_OK || (has_failed && way.status == TEURLAKS_OUT_OF_MEMORY));
+    /* Only if it says so may groups be left in the pool. */
+    WANT(way.status != TEURLAKS_OK || teurlaks_adopt(&core, 0).status == TEURLAKS_NOTHING_TO_ADOPT);
     look(&core, stay[0], 0);
     look(&core, stay[1], SLOTS);
     while (teurlaks_adopt(&core, 0).status == TEURLAKS_OK) continue;
@@ -118,6 +140,7 @@ static int failing_after(long allocations) {
 int main(void) {
     for (unsigned staying = 0; staying < PAGES; staying++) one_at_a_time(staying);
     answers();
+    idle_pages();
     long runs = 0;
     while (failing_after(runs)) runs++;
     printf("worn slots made way, and with each of %ld allocations failing in turn\n", runs);

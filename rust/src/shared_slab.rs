@@ -793,6 +793,7 @@ impl<T> fmt::Debug for SharedSlab<T> {
 
 #[cfg(test)]
 mod tests {
+    use super::table::{name_of, slot_of};
     use super::SharedSlab;
     use crate::background::Compacts;
     use crate::core::Limits;
@@ -820,6 +821,18 @@ mod tests {
         hints.set(last.serial(), other);
         assert_eq!(slab.get(last).as_deref(), Some(&999));
         assert!(hints.find(last.serial()) == Some(page));
+        Ok(())
+    }
+
+    /// A larger table of hints has all of them.
+    #[test]
+    fn hints_grow() -> Result<(), Refused> {
+        let (slab, keys) = filled(100 * 256)?;
+        assert!(slab.hints[0].len() >= 100);
+        for key in keys.iter().step_by(256) {
+            let page = slab.hints[0].find(key.serial()).expect("it has a hint");
+            assert_eq!(page.slot(slot_of(*key)).name(), name_of(*key));
+        }
         Ok(())
     }
 

@@ -462,6 +462,58 @@ fn compacts_if_it_pays() -> Result<(), Refused> {
     Ok(())
 }
 
+/// What a compaction has left is not held against what was put since, once that is sparse; and
+/// the pages that went before its folds are counted with those that the folds gave back.
+#[test]
+fn what_was_filled_since_may_fold() -> Result<(), Refused> {
+    const PAGES: usize = 100;
+    let mut store = Store::<u64>::with_limits(Limits {
+        shards: 1,
+        ..Limits::default()
+    })?;
+    for n in 0..PAGES as u64 * 256 {
+        store.insert(n)?;
+    }
+    // No two pages fit, though three of four could go by the numbers.
+    store.retain(|key, _| key.slot() < 64);
+    assert_eq!((store.compact()?, store.compact_if_pays(25)?), (0, 0));
+    for n in store.len()..PAGES * 256 {
+        store.insert(n as u64)?;
+    }
+    assert_eq!((store.compact_if_pays(25)?, store.pages()), (0, PAGES));
+    // A quarter of the pages has nothing, and each other one a value at another slot.
+    store.retain(|key, _| key.serial() % 4 > 0 && key.slot() == key.serial());
+    let gone = store.compact_if_pays(50)?;
+    assert!(gone > PAGES * 9 / 10, "{gone} pages went");
+    assert_eq!((store.pages(), store.len()), (PAGES - gone, PAGES * 3 / 4));
+    Ok(())
+}
+
+/// A compaction of full pages forgets what was folded onto them and is gone.
+#[test]
+fn full_pages_forget() -> Result<(), Refused> {
+    let mut core = Core::new(Limits {
+        shards: 1,
+        ..Limits::default()
+    })?;
+    let keys: Vec<_> = (0..20 * 256)
+        .map(|n| core.insert(0, n))
+        .collect::<Result<_, _>>()?;
+    let stays = |key: &&Key| key.slot() == key.serial();
+    for key in keys.iter().filter(|key| !stays(key)) {
+        assert!(core.free(*key));
+    }
+    assert!(core.compact()? > 15);
+    for key in keys.iter().filter(stays) {
+        assert!(core.free(*key));
+    }
+    for n in 0..core.pages() as u128 * 256 {
+        core.insert(0, n)?;
+    }
+    assert_eq!((core.compact()?, core.forget()?), (0, 0));
+    Ok(())
+}
+
 /// A store that is full is trimmed, and what it counts is what went.
 #[test]
 fn full_pages_are_passed_over() -> Result<(), Refused> {

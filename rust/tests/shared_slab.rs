@@ -794,6 +794,19 @@ fn what_is_refused() {
     }
 }
 
+/// A value that is lent goes on with a share of its own slab, and with none of another.
+#[test]
+fn what_is_lent_is_of_one_slab() {
+    let slabs = [(); 2].map(|()| Arc::new(SharedSlab::new().unwrap()));
+    let key = slabs[0].insert(7).unwrap();
+    let owned = slabs[0].get(key).unwrap().into_owned(&slabs[0]);
+    assert!(owned.key() == key && owned == 7 && Arc::strong_count(&slabs[0]) == 2);
+    drop(owned);
+    let guard = slabs[0].get(key).unwrap();
+    assert!(panics(|| drop(guard.into_owned(&slabs[1]))));
+    assert_eq!(slabs[0].take(key), Some(7)); // it is pinned no more
+}
+
 /// What folds brought to other pages is forgotten once its values are gone.
 #[test]
 fn what_was_folded_is_forgotten() {

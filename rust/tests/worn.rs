@@ -141,6 +141,23 @@ fn compactions_give_up_what_is_worn() -> Result<(), Refused> {
     Ok(())
 }
 
+/// So do those that fold: nothing is left for a forgetting.
+#[test]
+fn folds_give_up_what_is_worn() -> Result<(), Refused> {
+    let mut core = Core::new(few(64, 1))?;
+    let keys: Vec<_> = (0..40 * 256)
+        .map(|word| core.insert(0, word))
+        .collect::<Result<_, _>>()?;
+    // Each second page has nothing, and each other one an object at another slot.
+    let stays = |key: Key| key.serial() % 2 == 0 && key.slot() == key.serial();
+    for key in keys.iter().filter(|key| !stays(**key)) {
+        assert!(core.free(*key));
+    }
+    assert!(core.compact()? > 30);
+    assert_eq!((core.forget()?, core.len()), (0, 20));
+    Ok(())
+}
+
 /// Limits whose keys are numbers are kept to: no key has a span beyond them.
 #[test]
 fn spans_are_counted() -> Result<(), Refused> {

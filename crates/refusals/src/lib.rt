@@ -36,6 +36,8 @@ mod ends;
 #[cfg(test)]
 mod forgetting;
 #[cfg(test)]
+mod gathering;
+#[cfg(test)]
 mod openings;
 #[cfg(test)]
 mod refusing;

@@ -340,3 +340,41 @@ impl Core {
         }
     }
 }
+
+#[cfg(test)]
+mod tests {
+    use crate::core::{Core, Limits};
+    use crate::refused::Refused;
+
+    /// A core whose pages have one object each, each at another slot.
+    fn sparse() -> Result<Core, Refused> {
+        let mut core = Core::new(Limits::default())?;
+        let keys: Vec<_> = (0..40 * 256)
+            .map(|word| core.insert(0, word))
+            .collect::<Result<_, _>>()?;
+        for key in keys.iter().filter(|key| key.slot() != key.serial()) {
+            assert!(core.free(*key));
+        }
+        Ok(core)
+    }
+
+    /// Nothing is known to be in the pool once a compaction is over, or given up.
+    #[test]
+    fn the_pool_is_empty_afterwards() -> Result<(), Refused> {
+        let mut core = sparse()?;
+        assert!(core.compact()? > 20 && core.pool_is_empty());
+        for parts in 1..60 {
+            let mut core = sparse()?;
+            for _ in 0..parts {
+                let _ = core.compact_within(1)?;
+            }
+            let pages = core.pages();
+            core.give_up_compaction();
+            assert!(core.pool_is_empty() && core.close() == Err(Refused::NoPlan));
+            // What went before is not counted again.
+            let gone = core.compact()?;
+            assert_eq!(core.pages(), pages - gone);
+        }
+        Ok(())
+    }
+}
