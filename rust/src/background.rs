@@ -332,7 +332,12 @@ mod tests {
         counting.waits_until(|counts| counts.looks >= 80);
         // 24 of 100 pages could go, and that is too few.
         counting.with(|counts| {
-            assert!((1..=11).contains(&counts.walks), "{} walks", counts.walks);
+            let walks = counts.looks / 8;
+            assert!(
+                (walks - 1..=walks + 2).contains(&counts.walks),
+                "{} walks",
+                counts.walks
+            );
             counts.live = 1600 - 24 * 16;
             counts.looks = 0;
         });
@@ -377,6 +382,8 @@ mod tests {
         looks: usize,
         parts: usize,
         given_up: usize,
+        // How often it was asked whether others are prepared since they were to prepare.
+        asked: usize,
     }
 
     impl Stuck {
@@ -399,8 +406,22 @@ mod tests {
             })
         }
 
+        fn prepare(&self) {
+            self.with(|sticking| sticking.asked = 0);
+        }
+
+        fn is_prepared(&self) -> bool {
+            self.with(|sticking| {
+                sticking.asked += 1;
+                sticking.asked == 3
+            })
+        }
+
         fn compact_part(&self, _budget: usize) -> Result<Compacted, Refused> {
-            self.with(|sticking| sticking.parts += 1);
+            self.with(|sticking| {
+                assert_eq!(sticking.asked, 3);
+                sticking.parts += 1;
+            });
             Ok(Compacted::default())
         }
 

@@ -1036,3 +1036,82 @@ fn a_walk_meets_what_stays() -> Result<(), Refused> {
     assert_eq!(arena.keys().next(), None);
     Ok(())
 }
+
+/// A seat that helps adopts all that it had retired and that was not folded, and does nothing while
+/// a plan is open.
+#[test]
+fn a_seat_that_helps_takes_back_what_is_left() -> Result<(), Refused> {
+    let mut arena = Arena::<u64>::open(Limits {
+        shards: 1,
+        ..Limits::default()
+    })?;
+    let mut seat = arena.seat()?;
+    let keys = (0..20 * 256)
+        .map(|number| seat.insert(number))
+        .collect::<Result<Vec<_>, _>>()?;
+    // One value stays on each page: on all but two at the same slot.
+    let stays = |key: &Key| key.slot() == 7 * u32::from(key.serial() < 2);
+    assert!(keys.iter().all(|key| stays(key) || seat.free(*key)));
+    arena.ask_to_retire(12);
+    assert_eq!((seat.help_compact()?, seat.help_compact()?), (12, 0));
+    let marked = arena.mark()?;
+    assert!((1..=2).contains(&marked.folds));
+    arena.ask_to_retire(3);
+    assert_eq!(
+        (seat.help_compact()?, seat.adopt()),
+        (0, Err(Refused::PlanOpen))
+    );
+    arena.close()?;
+    // It takes 12 back, and then three others go.
+    assert_eq!((seat.help_compact()?, seat.help_compact()?), (3, 0));
+    assert!((0..3).all(|_| seat.adopt().is_ok()));
+    assert_eq!(seat.adopt(), Err(Refused::NothingToAdopt));
+    // With nothing to take back it is the retirement that waits for the plan.
+    arena.ask_to_retire(0);
+    assert_eq!((seat.help_compact()?, seat.retire(5)?), (0, 5));
+    arena.ask_to_retire(2);
+    assert!(arena.mark()?.folds > 0);
+    assert_eq!(seat.help_compact()?, 0);
+    arena.close()?;
+    while seat.adopt().is_ok() {}
+    assert_eq!((seat.help_compact()?, arena.totals().pages), (2, 20));
+    Ok(())
+}
+
+/// More groups than a plan has on a side are folded by several, at once and in parts.
+#[test]
+fn many_groups_take_several_plans() -> Result<(), Refused> {
+    const PAGES: usize = 9000;
+    for is_at_once in [true, false] {
+        let mut arena = Arena::<u64>::open(Limits {
+            shards: 1,
+            slots: 4,
+            ..Limits::default()
+        })?;
+        let mut seat = arena.seat()?;
+        let keys = (0..PAGES as u64 * 4)
+            .map(|number| seat.insert(number))
+            .collect::<Result<Vec<_>, _>>()?;
+        let stays = |key: &Key| key.slot() == key.serial() % 4;
+        assert!(keys.iter().all(|key| stays(key) || seat.free(*key)));
+        assert_eq!(seat.retire(PAGES / 2)?, PAGES / 2);
+        let mut gone = 0;
+        if is_at_once {
+            gone = arena.mesh()?;
+        } else {
+            loop {
+                let done = arena.compact_within(100)?;
+                gone += done.pages;
+                if !done.more {
+                    break;
+                }
+            }
+        }
+        assert!(gone > 4096, "{gone} pages went");
+        assert_eq!(arena.totals().pages, PAGES - gone);
+        let is_there = |(key, number): (&Key, u64)| seat.get(*key) == Some(number);
+        let left = keys.iter().zip(0..).filter(|(key, _)| stays(key));
+        assert_eq!(left.filter(|it| is_there(*it)).count(), PAGES);
+    }
+    Ok(())
+}

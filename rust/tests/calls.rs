@@ -417,6 +417,49 @@ fn a_store_puts_where_there_is_room() -> Result<(), Refused> {
     Ok(())
 }
 
+/// The first shard that has room takes a value of a slab: also one that was passed over, once one
+/// of its values is gone, or it has adopted a page with room.
+#[test]
+fn a_slab_puts_where_there_is_room() -> Result<(), Refused> {
+    let few = |shards, pages| Limits {
+        shards,
+        pages,
+        ..Limits::default()
+    };
+    let mut slab = Slab::with_limits(few(3, 1))?;
+    let keys = (0..48_u8)
+        .map(|n| slab.insert([n; 2000]))
+        .collect::<Result<Vec<_>, _>>()?;
+    assert_eq!([0, 20, 40].map(|place| keys[place].shard()), [0, 1, 2]);
+    for place in [40, 3, 20] {
+        assert!(slab.remove(keys[place]).is_some());
+    }
+    let shards = [(); 3].map(|()| slab.insert([7; 2000]).map(Key::shard));
+    assert_eq!(shards, [Ok(0), Ok(1), Ok(2)]);
+    assert_eq!(slab.insert([7; 2000]), Err(Refused::PagesSpent));
+
+    let mut slab = Slab::with_limits(few(2, 2))?;
+    let keys = (0..33_u8)
+        .map(|n| slab.insert([n; 2000]))
+        .collect::<Result<Vec<_>, _>>()?;
+    // A full page goes from the first shard to the second, and one with room comes.
+    assert_eq!((slab.retire(1, 1)?, slab.retire(0, 1)?), (1, 1));
+    let full = slab.adopt(1)?;
+    let roomy = slab.adopt(0)?;
+    assert_eq!((full.shard(), roomy.shard(), slab.pages()), (0, 1, 3));
+    for n in 33..48 {
+        slab.insert([n; 2000])?;
+    }
+    assert_eq!((slab.len(), slab.pages()), (48, 3));
+    // The other shard opens a page, and is passed over once the first one has room again.
+    slab.insert([48; 2000])?;
+    assert_eq!(slab.pages(), 4);
+    assert_eq!(slab.remove(keys[32]), Some([32; 2000]));
+    let again = slab.insert([49; 2000])?;
+    assert_eq!((again.shard(), again.serial(), again.slot()), (1, 0, 0));
+    Ok(())
+}
+
 /// The shards of a new store take turns, and their keys are numbers of 64 bits.
 #[test]
 fn shards_take_turns() -> Result<(), Refused> {

@@ -295,16 +295,11 @@ fn one_call_ends_parts() -> Result<(), Refused> {
 #[test]
 fn parts_move_values_together() -> Result<(), Refused> {
     let (mut slab, stay) = sparse::<Slab<[u64; 7]>>(10_000, 15)?;
-    let places = |slab: &Slab<[u64; 7]>| -> Vec<_> {
-        stay.iter()
-            .map(|(key, _)| slab.get(*key).map(|value| value.as_ptr()))
-            .collect()
-    };
-    let (mut at, mut moves) = (places(&slab), 0);
+    let (mut at, mut moves) = (places(&slab, &stay), 0);
     loop {
         let done = slab.compact_within(1)?;
         finds_all(&slab, &stay);
-        let now = places(&slab);
+        let now = places(&slab, &stay);
         moves += usize::from(done.pages == 0 && now != at);
         at = now;
         if !done.more {
@@ -312,9 +307,26 @@ fn parts_move_values_together() -> Result<(), Refused> {
         }
     }
     assert!(moves > 1);
-    assert_eq!((slab.compact()?, places(&slab)), (0, at));
+    assert_eq!((slab.compact()?, places(&slab, &stay)), (0, at));
     finds_all(&slab, &stay);
     Ok(())
+}
+
+/// One call moves all of them: no part moves any further.
+#[test]
+fn one_call_moves_values_together() -> Result<(), Refused> {
+    let (mut slab, stay) = sparse::<Slab<[u64; 7]>>(10_000, 15)?;
+    slab.compact()?;
+    let at = places(&slab, &stay);
+    assert_eq!((slab.parts(1)?.0, places(&slab, &stay)), (0, at));
+    Ok(())
+}
+
+/// Where each of the values stands.
+fn places(slab: &Slab<[u64; 7]>, stay: &[(Key, u64)]) -> Vec<Option<*const u64>> {
+    stay.iter()
+        .map(|(key, _)| slab.get(*key).map(|value| value.as_ptr()))
+        .collect()
 }
 
 /// Where no two pages fit by their numbers, nothing is retired: the pool stays empty.

@@ -60,3 +60,17 @@ fn a_wider_object_is_none() {
     assert_eq!(core.insert_many(0, &[], &mut Vec::new()), Ok(()));
     assert_eq!(core.free_many(&[]), 0);
 }
+
+/// Pages of many words are folded as those of one by one: so few are live on each that all would
+/// fit a few pages, if it is known that 256 share one.
+#[test]
+fn many_words_are_folded() {
+    let mut core = Core::new(Limits::default()).unwrap();
+    let (words, mut keys) = (vec![7; 64 * 256], Vec::new());
+    core.insert_many(0, &words, &mut keys).unwrap();
+    let goes = |key: &Key| key.slot() / 16 != key.serial() % 16;
+    let gone: Vec<Key> = keys.iter().copied().filter(goes).collect();
+    assert_eq!(core.free_many(&gone), 64 * 240);
+    assert!(core.compact().unwrap() > 48);
+    assert_eq!(core.len(), 64 * 16);
+}

@@ -54,6 +54,25 @@ fn values_of_48_bytes_take_little_more() -> Result<(), Refused> {
     Ok(())
 }
 
+/// Each of some slabs has four pages of values, so few that none goes by itself once it is free: all
+/// go with the call.
+fn the_last_pages_leave_the_process(
+    give_back: fn(&mut Slab<[u64; 512]>) -> Result<usize, Refused>,
+) -> Result<(), Refused> {
+    let base = kilobytes("VmRSS:");
+    let mut slabs = (0..64)
+        .map(|_| Slab::try_from_iter((0..64).map(|number| [number; 512])))
+        .collect::<Result<Vec<_>, _>>()?;
+    let full = kilobytes("VmRSS:") - base;
+    for slab in &mut slabs {
+        slab.clear();
+        assert_eq!((give_back(slab)?, slab.pages()), (4, 0));
+    }
+    let left = kilobytes("VmRSS:").saturating_sub(base);
+    assert!(left < full / 2, "of {full} KB {left} are left");
+    Ok(())
+}
+
 fn by_steps(slab: &mut Slab<[u64; 30]>) -> Result<(), Refused> {
     for _ in 0..2 {
         for shard in 0..5 {
@@ -156,6 +175,9 @@ fn memory_goes_back_and_is_refused() -> Result<(), Refused> {
     most_of_it_leaves_the_process(300_000, by_steps)?;
     values_of_48_bytes_take_little_more()?;
     trimmed_pages_leave_the_process()?;
+    the_last_pages_leave_the_process(|slab| Ok(slab.shrink_to_fit()))?;
+    the_last_pages_leave_the_process(|slab| slab.compact_if_pays(100))?;
+    the_last_pages_leave_the_process(Slab::compact)?;
     refused_where_there_is_none::<1000>()?;
     refused_where_there_is_none::<8192>()
 }

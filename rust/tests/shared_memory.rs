@@ -7,7 +7,7 @@ use common::{kilobytes, with_data_left, with_data_owed};
 use std::mem;
 use std::sync::atomic::{AtomicBool, Ordering};
 use std::thread;
-use teurlaks::{Key, Refused, SharedSlab, SharedStore};
+use teurlaks::{Key, Limits, Refused, SharedSlab, SharedStore};
 
 const THREADS: u64 = 4;
 const VALUES: u64 = 75_000;
@@ -94,6 +94,30 @@ fn values_of_a_slab_leave_the_process(
     Ok(())
 }
 
+/// Each of 64 shards has four pages of values, so few that none goes by itself once it is free: all
+/// go with the call.
+fn the_last_pages_leave_the_process(
+    give_back: fn(&SharedSlab<[u64; 512]>) -> Result<usize, Refused>,
+) -> Result<(), Refused> {
+    const PAGES: usize = 64 * 4;
+    let slab = SharedSlab::with_limits(Limits {
+        shards: 64,
+        pages: 4,
+        ..Limits::default()
+    })?;
+    let base = kilobytes("VmRSS:");
+    let keys: Vec<_> = (0..PAGES as u64 * 16)
+        .map(|number| slab.insert([number; 512]))
+        .collect::<Result<_, _>>()?;
+    assert_eq!((slab.pages(), slab.value_pages()), (PAGES, PAGES));
+    let full = kilobytes("VmRSS:") - base;
+    assert!(keys.iter().all(|key| slab.remove(*key)));
+    assert_eq!(give_back(&slab)?, PAGES);
+    let left = kilobytes("VmRSS:").saturating_sub(base);
+    assert!(left < full / 2, "of {full} KB {left} are left");
+    Ok(())
+}
+
 /// Takes all blocks that the allocator gives out.
 fn take_all(blocks: &mut Vec<Vec<u8>>) {
     for bytes in [1 << 20, 1 << 16, 1 << 12, 1 << 8, 1 << 4] {
@@ -148,5 +172,7 @@ fn memory_goes_back_and_is_refused() -> Result<(), Refused> {
         |key| (key.serial() * 64 + key.slot()) * 7919 % 100 < 5,
         SharedSlab::compact,
     )?;
+    the_last_pages_leave_the_process(|slab| Ok(slab.trim()))?;
+    the_last_pages_leave_the_process(SharedSlab::compact)?;
     refused_where_there_is_none()
 }

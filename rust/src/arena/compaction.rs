@@ -345,3 +345,67 @@ impl<T> Seat<T> {
         Ok(retired)
     }
 }
+
+#[cfg(test)]
+mod tests {
+    use super::{Arena, Seat, Steward};
+    use crate::background::Compacts;
+    use crate::core::Limits;
+    use crate::refused::Refused;
+    use std::sync::atomic::{AtomicBool, AtomicU32};
+    use std::sync::{Arc, Mutex};
+
+    /// The steward and the seat of 64 pages with one value each, no two at one slot, of which 20 are in the pool.
+    fn steward() -> Result<(Steward<u64>, Seat<u64>), Refused> {
+        let mut arena = Arena::open(Limits {
+            slots: 128,
+            ..Limits::default()
+        })?;
+        let mut seat = arena.seat()?;
+        let keys: Vec<_> = (0..64 * 128)
+            .map(|number| seat.insert(number))
+            .collect::<Result<_, _>>()?;
+        for key in keys.iter().filter(|key| key.slot() != key.serial()) {
+            assert!(seat.free(*key));
+        }
+        assert_eq!(seat.retire(20)?, 20);
+        let steward = Steward {
+            arena: Arc::new(Mutex::new(arena)),
+            helpers: AtomicU32::new(0),
+            has_gathered: AtomicBool::new(false),
+        };
+        Ok((steward, seat))
+    }
+
+    /// Seats are waited for until none has helped since the last look.
+    #[test]
+    fn waits_for_seats() -> Result<(), Refused> {
+        let (steward, mut seat) = steward()?;
+        assert!(!steward.is_prepared());
+        steward.lock().ask_to_retire(3);
+        assert!(!steward.is_prepared() && steward.lock().waits_for_help());
+        assert_eq!((seat.help_compact()?, seat.help_compact()?), (3, 0));
+        assert!(!steward.lock().waits_for_help());
+        assert!(!steward.is_prepared() && steward.is_prepared());
+        Ok(())
+    }
+
+    /// The next compaction begins with a plan, wherever one was given up.
+    #[test]
+    fn begins_anew_once_given_up() -> Result<(), Refused> {
+        for steps in 1..30 {
+            let (steward, _seat) = steward()?;
+            let mut gone = steward.compact_part(steps)?.pages;
+            steward.give_up();
+            loop {
+                let done = steward.compact_part(7)?;
+                gone += done.pages;
+                if !done.more {
+                    break;
+                }
+            }
+            assert_eq!((gone, steward.lock().totals().pages), (20, 44));
+        }
+        Ok(())
+    }
+}
