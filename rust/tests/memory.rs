@@ -54,8 +54,8 @@ fn values_of_48_bytes_take_little_more() -> Result<(), Refused> {
     Ok(())
 }
 
-/// Each of some slabs has four pages of values, so few that none goes by itself once it is free: all
-/// go with the call.
+/// Each of some slabs has four pages of values, so few that none goes by itself once it is free:
+/// all go with the call.
 fn the_last_pages_leave_the_process(
     give_back: fn(&mut Slab<[u64; 512]>) -> Result<usize, Refused>,
 ) -> Result<(), Refused> {

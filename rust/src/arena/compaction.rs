@@ -355,7 +355,8 @@ mod tests {
     use std::sync::atomic::{AtomicBool, AtomicU32};
     use std::sync::{Arc, Mutex};
 
-    /// The steward and the seat of 64 pages with one value each, no two at one slot, of which 20 are in the pool.
+    /// The steward and the seat of 64 pages with one value each, no two at one slot: 20 of them are
+    /// in the pool.
     fn steward() -> Result<(Steward<u64>, Seat<u64>), Refused> {
         let mut arena = Arena::open(Limits {
             slots: 128,
