@@ -10,9 +10,9 @@ use std::time::{Duration, Instant};
 use teurlaks::arena::Seat;
 use teurlaks::{Arena, Compacted, Core, Key, Limits, Policy, Refused, SharedStore};
 
-/// How many values there are: on 3,750 pages of 1,024 bytes, of which four share one of the
+/// How many values there are: on 5,000 pages of 1,024 bytes, of which four share one of the
 /// system's.
-const VALUES: usize = 240_000;
+const VALUES: usize = 320_000;
 const SLOTS: usize = 64;
 
 /// How many kilobytes these have.
@@ -45,7 +45,8 @@ fn left<S: Keeps>(
         *key = store.put(number)?;
     }
     let full = kilobytes("VmRSS:") - base;
-    assert!(full >= FULL, "{full} KB");
+    // Some of it may be what was resident before and free.
+    assert!(full >= FULL * 3 / 4, "{full} KB");
     let stays = |number: usize| number / SLOTS % 5 == 0;
     let mut gone = (0..VALUES).filter(|number| !stays(*number));
     assert!(gone.all(|number| store.let_go(keys[number])));
@@ -146,20 +147,14 @@ fn by_a_core() -> Result<[u64; 4], Refused> {
     ])
 }
 
-fn by_what_is_shared() -> Result<[u64; 3], Refused> {
+fn by_what_is_shared() -> Result<[u64; 2], Refused> {
     Ok([
         left(shared()?, |store| store.compact().map(drop))?,
         left(shared()?, |store| in_parts(|| store.compact_within(100)))?,
-        left(shared()?, |store| {
-            let _background = store
-                .compact_in_background(POLICY)
-                .expect("a thread begins");
-            wait_until_less(|| Ok(()))
-        })?,
     ])
 }
 
-fn by_seats() -> Result<[u64; 5], Refused> {
+fn by_seats() -> Result<[u64; 4], Refused> {
     let trimmed = |seated: &mut Seated| assert!(seated.seat.trim() > VALUES / SLOTS / 2);
     Ok([
         left(seated()?, |seated| {
@@ -180,6 +175,17 @@ fn by_seats() -> Result<[u64; 5], Refused> {
             seated.seat.end()?;
             in_parts(|| seated.arena.lock().unwrap().compact_within(10))
         })?,
+    ])
+}
+
+fn in_background() -> Result<[u64; 2], Refused> {
+    Ok([
+        left(shared()?, |store| {
+            let _background = store
+                .compact_in_background(POLICY)
+                .expect("a thread begins");
+            wait_until_less(|| Ok(()))
+        })?,
         left(seated()?, |seated| {
             let _background = Arena::compact_in_background(&seated.arena, POLICY);
             wait_until_less(|| seated.seat.help_compact().map(drop))
@@ -187,29 +193,25 @@ fn by_seats() -> Result<[u64; 5], Refused> {
     ])
 }
 
-/// Of pages that are trimmed alone nearly all memory stays, and of those that are gathered hardly
-/// more than half.
+/// Of pages that are trimmed alone nearly all memory stays, and of those that are gathered less
+/// than half; in the background no more is waited for than that half of it goes.
 #[test]
 fn each_gathering_gives_memory_back() -> Result<(), Refused> {
     let trimmed = left(core()?, |core| core.trim(0).map(drop))?;
     assert!(trimmed > 78, "{trimmed} % are left");
-    for (gathered, call) in by_a_core()?.into_iter().zip(0..) {
-        assert!(
-            gathered < 70,
-            "of a core, by call {call}, {gathered} % are left"
-        );
-    }
-    for (gathered, call) in by_what_is_shared()?.into_iter().zip(0..) {
-        assert!(
-            gathered < 70,
-            "of what is shared, by call {call}, {gathered} % are left"
-        );
-    }
-    for (gathered, call) in by_seats()?.into_iter().zip(0..) {
-        assert!(
-            gathered < 70,
-            "of seats, by call {call}, {gathered} % are left"
-        );
-    }
+    let core = by_a_core()?;
+    assert!(core.iter().all(|left| *left < 54), "{core:?} % are left");
+    let shared = by_what_is_shared()?;
+    assert!(
+        shared.iter().all(|left| *left < 54),
+        "{shared:?} % are left"
+    );
+    let seats = by_seats()?;
+    assert!(seats.iter().all(|left| *left < 54), "{seats:?} % are left");
+    let background = in_background()?;
+    assert!(
+        background.iter().all(|left| *left < 70),
+        "{background:?} % are left"
+    );
     Ok(())
 }

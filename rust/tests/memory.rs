@@ -54,19 +54,19 @@ fn values_of_48_bytes_take_little_more() -> Result<(), Refused> {
     Ok(())
 }
 
-/// Each of some slabs has four pages of values, so few that none goes by itself once it is free:
+/// Each of some slabs has three pages of values, so few that none goes by itself once it is free:
 /// all go with the call.
 fn the_last_pages_leave_the_process(
     give_back: fn(&mut Slab<[u64; 512]>) -> Result<usize, Refused>,
 ) -> Result<(), Refused> {
     let base = kilobytes("VmRSS:");
     let mut slabs = (0..64)
-        .map(|_| Slab::try_from_iter((0..64).map(|number| [number; 512])))
+        .map(|_| Slab::try_from_iter((0..48).map(|number| [number; 512])))
         .collect::<Result<Vec<_>, _>>()?;
     let full = kilobytes("VmRSS:") - base;
     for slab in &mut slabs {
         slab.clear();
-        assert_eq!((give_back(slab)?, slab.pages()), (4, 0));
+        assert_eq!((give_back(slab)?, slab.pages()), (3, 0));
     }
     let left = kilobytes("VmRSS:").saturating_sub(base);
     assert!(left < full / 2, "of {full} KB {left} are left");
