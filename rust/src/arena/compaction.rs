@@ -41,8 +41,8 @@ impl<T> Arena<T> {
     /// [`Seat::help_compact`]): a step is a mark, a pair of its plan, a forgetting, or, if there
     /// are pages of less than 4,096 bytes by [`Limits::slots`](crate::Limits::slots), 16 of the
     /// pool that are brought together. A mark is that of [`Arena::mark_some`], so it holds all
-    /// locks for as long as it plans: the fewer groups there are in the pool, the shorter. What is not folded stays in the pool until a seat
-    /// adopts it.
+    /// locks for as long as it plans: the fewer groups there are in the pool, the shorter. What is
+    /// not folded stays in the pool until a seat adopts it.
     ///
     /// Between two calls a plan may be open, so [`Arena::mark`], [`Arena::mark_some`],
     /// [`Arena::mesh`], [`Arena::forget`] and [`Seat::adopt`] may be refused with
