@@ -1,5 +1,5 @@
 -- What the fields of a core keep, where a shard, the pool and the whereabouts change.
-use Rattle.std.proofs.Common.{◌≡◌, ◌≢◌, ℕ, Bool, Option, Result, Ok, Err, IfOk, OnErr, true, false, cond, ap, is_some, map, refl, set, subst, sym, ◌∙◌}
+use Rattle.std.proofs.Common.{◌≡◌, ◌≢◌, ℕ, Bool, Option, Result, Ok, Err, IfOk, OnErr, true, false, cond, ap, is_some, length, map, refl, set, subst, sym, ◌∙◌}
 use Rattle.std.specs.declared.alloc.AllocError.{AllocError}
 use Rattle.span.specs.declared.id.SpanId.{SpanId}
 use Rattle.span.specs.declared.key.Key.{Key}
@@ -33,8 +33,8 @@ use Rattle.arena_core.proofs.Groups.{IsCall-ChangesSpan, IsCall-Puts}
 use Rattle.arena_core.proofs.MarkSteps.{with_step_at}
 use Rattle.arena_core.proofs.Noted.{Comes, KnowsMoved-map, KnowsMoved-noted, KnowsMoved-set, has_span-flagged, kept-IsCall, kept-emptied, kept-part}
 use Rattle.pool.specs.Retires.{Retires}
-use Rattle.shard.specs.Trims.{Trims}
-use Rattle.arena_core.proofs.Trimmed.{IsCall-Trims}
+use Rattle.shard.specs.Trims.{Trims, changed_from, trimmed}
+use Rattle.arena_core.proofs.Trimmed.{IsCall-trimmed, all_trimmed}
 use Rattle.arena_core.proofs.OneSpan.{ChangesSpan-Frees, ChangesSpan-Sets}
 use Rattle.arena_core.proofs.Retired.{HasGone-Retires}
 use Rattle.arena_core.proofs.Start.{slice_get-range}
@@ -76,8 +76,11 @@ module _ {L : Type 0} (c : Inside L) (kept : IsKept c) (number : ℕ) (before : 
   GetsNone-Retires pool_before pool_after most count after sound sound_after retires id foreign has =
       kept-part before after sound sound_after (HasGone-Retires pool_before before most count pool_after after retires).part id has
 
+  pub GetsNone-trimmed : (from count : ℕ) (after : ShardState) → after ≡ record before { groups = changed_from trimmed from count before.groups } → GetsNone number before after
+  GetsNone-trimmed from count after is = kept-IsCall before after number number_is (IsCall-trimmed before after from count is)
+
   pub GetsNone-Trims : (count : ℕ) (after : ShardState) → Trims before count after → GetsNone number before after
-  GetsNone-Trims count after trims = kept-IsCall before after number number_is (IsCall-Trims before after count trims)
+  GetsNone-Trims count after trims = GetsNone-trimmed 0 (length before.groups) after (all_trimmed before after count trims)
 
   pub IsKept-with_both_at : (after : ShardState) (pool : PoolState) → GetsNone number before after
       → IsSound (state_of (with_both_at c number after pool c.whereabouts)) → IsKept (with_both_at c number after pool c.whereabouts)

@@ -21,6 +21,9 @@ use Rattle.arena_core.specs.declared.reply.Refusal.{Refusal}
 use Rattle.arena_core.specs.declared.reply.Refusal.TheVariants as refusal
 use Rattle.arena_core.specs.declared.reply.Reply.TheVariants as reply
 use Rattle.arena_core.proofs.Made.{unmade-get}
+use Rattle.arena_core.specs.TrimsPart.{TrimsPart}
+use Rattle.shard.specs.Trims.{trimmed}
+use Rattle.shard.proofs.ChangedFrom.{changed_from-none}
 use Rattle.arena_core.proofs.Steps.{with_shard-same}
 
 -- a shard that was not made is unused
@@ -68,6 +71,21 @@ CoreStep-trim_unused core number unused there = record {
   trims = record { after = refl; count_is = refl };
   rest = sym (with_shard-same core number (new_shard_of core.limits number) (new_shard_of core.limits number) (unused there) refl);
 }
+
+pub TrimsPart-unused : (core : CoreState) (number from most : ℕ) → IsUnused core number → number < core.limits.shards → TrimsPart number from most core (record { groups = 0; pages = 0 }) core
+TrimsPart-unused core number from most unused there =
+    let shard = new_shard_of core.limits number in
+    record {
+      before = shard;
+      after = shard;
+      here = unused there;
+      trims = record {
+        groups_is = omega arith;
+        pages_is = refl;
+        after = ap (λ groups. record shard { groups = groups }) (sym (changed_from-none trimmed from []));
+      };
+      rest = sym (with_shard-same core number shard shard (unused there) refl);
+    }
 
 pub CoreStep-retire_unused : (core : CoreState) (number most : ℕ) → IsSoundPool core.pool → IsUnused core number → number < core.limits.shards
     → CoreStep core (Retire number most) (reply.Retired 0) core

@@ -1,5 +1,5 @@
 -- Each call of a shard or of the pool as a step of the core, exactly, and of the plain map, whatever plan is open.
-use Rattle.std.proofs.Common.{◌≡◌, ℕ, suc, ◌<◌, ◌≤◌, true, false, cond, List, [], ◌∷◌, inl, inr, refl, sym, ap, subst, ◌∙◌, arith, Option, Some, None, set, slice_get, is_some, MatchOption}
+use Rattle.std.proofs.Common.{◌≡◌, ℕ, suc, ◌<◌, ◌≤◌, true, false, cond, List, [], ◌∷◌, inl, inr, refl, sym, ap, subst, ◌∙◌, arith, Option, Some, None, set, slice_get, is_some, length, MatchOption}
 use Rattle.std.proofs.lemmas.Option.{none-some}
 use Rattle.span.specs.declared.id.SpanId.{SpanId}
 use Rattle.span.specs.declared.key.Key.{Key}
@@ -27,7 +27,7 @@ use Rattle.pool.specs.State.{PoolState}
 use Rattle.marks.specs.Plans.{AreClosedAsPlanned, is_planned, plans_onto, OpenPlan}
 use Rattle.arena_core.specs.Plan.{IsOwned, IsUnderWay, HasSoundPlan}
 use Rattle.arena_core.specs.Plain.{ErasedStep}
-use Rattle.arena_core.specs.Sound.{IsSound}
+use Rattle.arena_core.specs.Sound.{HasSoundGroups, IsSound}
 use Rattle.arena_core.specs.State.{CoreState, has_span, opened_by, opened_of, shown, with_pool, with_shard}
 use Rattle.arena_core.specs.Step.{CoreStep}
 use Rattle.arena_core.specs.declared.event.Event.{Event}
@@ -42,8 +42,8 @@ use Rattle.arena_core.proofs.OneSpan.{ChangesPooled, ChangesPooled-Frees, Change
 use Rattle.arena_core.proofs.Moves.{unclosed}
 use Rattle.pool.specs.Retires.{HasRetired, Retires}
 use Rattle.arena_core.proofs.Retired.{HasGone-Retires, IsMove-Retires}
-use Rattle.arena_core.proofs.Trimmed.{AreClosedAsPlanned-Trims, KeepsClosed-Trims, IsCall-Trims}
-use Rattle.shard.specs.Trims.{Trims}
+use Rattle.arena_core.proofs.Trimmed.{AreClosedAsPlanned-trimmed, IsCall-trimmed, KeepsClosed-trimmed, all_trimmed}
+use Rattle.shard.specs.Trims.{Trims, changed_from, trimmed}
 use Rattle.arena_core.proofs.Spans.{times-parts, times_in-found, times_in-le, has_span-counted}
 use Rattle.arena_core.proofs.Steps.{with_pool-same, with_shard-same, may_set-shard, pooled-somewhere, value-shard, has_span-head}
 use Rattle.arena_core.proofs.Groups.{IsCall-ChangesSpan, IsCall-Puts, IsMove-Adopts, IsMove-Receives, IsPoolCall-ChangesPooled}
@@ -372,23 +372,36 @@ IsSoundStep-Retires old number most count before after pool sound here none_clos
       plain = shown-same old (with_pool (with_shard old number after) pool) sound.groups groups refl (sum_all-moved old sound.groups number before after pool here move);
     }
 
+-- a shard of which some groups were trimmed
+module _ (old : CoreState) (number from count : ℕ) (before after : ShardState) (sound : IsSound old) (here : slice_get old.shards number ≡ Some before)
+    (is : after ≡ record before { groups = changed_from trimmed from count before.groups }) (sound_after : IsSoundShard after) where
+  trimmed_groups : HasSoundGroups (with_shard old number after)
+  trimmed_groups = HasSoundGroups-with_shard old sound.groups number before after here (IsCall-trimmed before after from count is) sound_after
+
+  pub IsSound-trimmed : IsSound (with_shard old number after)
+  IsSound-trimmed = record {
+    groups = trimmed_groups;
+    plan = HasSoundPlan-kept old (with_shard old number after) sound.plan refl refl (KeepsPooled-same old.pool.groups)
+        (KeepsAllClosed-set old.shards number before after here (KeepsClosed-trimmed before after from count is))
+        (AreAllClosedAsPlanned-set old.plan old.shards number after sound.plan.closed (AreClosedAsPlanned-trimmed before after from count is old.plan (sound.plan.closed number before here)));
+    rings = sound.rings;
+  }
+
+  pub shown-trimmed : shown_by after ≡ shown_by before → shown (with_shard old number after) ≡ shown old
+  shown-trimmed plain =
+      let new = with_shard old number after in
+      let local = IsLocal-shard old new (at_most_once old sound.groups) (at_most_once new trimmed_groups) number before after here refl in
+      shown-unchanged old new (shown_by before) (shown_by after) (λ id. has_span id after) local plain
+
 pub IsSoundStep-Trims : (old : CoreState) (number count : ℕ) (before after : ShardState) → IsSound old → slice_get old.shards number ≡ Some before
     → Trims before count after → shown_by after ≡ shown_by before → IsSoundShard after
     → IsSoundStep old (Trim number) (reply.Trimmed count) (with_shard old number after)
 IsSoundStep-Trims old number count before after sound here trims plain sound_after =
-    let new = with_shard old number after in
-    let groups = HasSoundGroups-with_shard old sound.groups number before after here (IsCall-Trims before after count trims) sound_after in
-    let local = IsLocal-shard old new (at_most_once old sound.groups) (at_most_once new groups) number before after here refl in
+    let is = all_trimmed before after count trims in
     record {
-      kept = record {
-        groups = groups;
-        plan = HasSoundPlan-kept old new sound.plan refl refl (KeepsPooled-same old.pool.groups)
-            (KeepsAllClosed-set old.shards number before after here (KeepsClosed-Trims before after count trims))
-            (AreAllClosedAsPlanned-set old.plan old.shards number after sound.plan.closed (AreClosedAsPlanned-Trims old.plan before after count trims (sound.plan.closed number before here)));
-        rings = sound.rings;
-      };
+      kept = IsSound-trimmed old number 0 (length before.groups) before after sound here is sound_after;
       exact = record { before = before; after = after; here = here; trims = trims; rest = refl };
-      plain = shown-unchanged old new (shown_by before) (shown_by after) (λ id. has_span id after) local plain;
+      plain = shown-trimmed old number 0 (length before.groups) before after sound here is sound_after plain;
     }
 
 pub IsSoundStep-Adopts : (old : CoreState) (number : ℕ) (head : SpanId) (before after : ShardState) (pool : PoolState) → IsSound old → old.plan ≡ None

@@ -1,4 +1,5 @@
 pub mod Calls
+pub mod Estimate
 pub mod Filled
 pub mod Forgets
 pub mod Gathers
@@ -15,3 +16,4 @@ pub mod RingsKept
 pub mod Sound
 pub mod State
 pub mod Step
+pub mod TrimsPart

@@ -27,6 +27,7 @@ use std::marker::Model;
 
 mod deferred;
 mod ends;
+mod estimating;
 mod forgetting;
 mod gathering;
 mod keys;

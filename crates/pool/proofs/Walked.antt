@@ -82,7 +82,7 @@ span_sum [] = refl
 span_sum (group ∷ groups) = omega (arith, span_sum groups, length-append (spans_of group) (spans_in groups), sum_by-cons (λ g. length (spans_of g)) group groups)
 
 module _ (groups : List PooledState) where
-  permuted : IsPermutation groups (in_order groups)
+  pub permuted : IsPermutation groups (in_order groups)
   permuted = IsPermutation-arranged head_rank groups
 
   pub pages-in_order : length (filter paged (in_order groups)) ≡ length (filter paged groups)

@@ -6,6 +6,7 @@ pub mod Noted
 pub mod Ranked
 pub mod RanksKept
 pub mod Retires
+pub mod Samples
 pub mod Shown
 pub mod Sound
 pub mod Sparse

@@ -20,6 +20,7 @@ ghost use Rattle.pool.specs.Groups.{FreesIn, HasHeadAt, Inserts, OfMember, OnDon
 ghost use Rattle.pool.specs.Handover.{HaveOneIn};
 ghost use Rattle.pool.specs.Noted.{AreNoted, HasNoPageAt, IsHeadOfFirstPaged, IsPagedHead};
 ghost use Rattle.pool.specs.Ranked.{AreFound, HaveOwnHeads, KeepsPaged, LetsGo, head_rank, in_order};
+ghost use Rattle.pool.specs.Samples.{Samples};
 ghost use Rattle.pool.specs.Sparse.{HaveSparsest};
 ghost use Rattle.pool.specs.State.{PooledState};
 ghost use Rattle.pool.specs.Tabled.{AreKept};
@@ -33,7 +34,7 @@ use crate::ranks::Ranks;
 use crate::sparse::sparse;
 use crate::walks;
 use groups::{Directory, LateTable};
-use shard::Shard;
+use shard::{Sample, Shard};
 use span::names::{Entry, Key, SpanId};
 use span::spans::{Counted, Kept, Log, SpanLog};
 use std::alloc::{AllocError, Global};
@@ -269,6 +270,15 @@ impl<L: Log> GroupTable<L> {
         ensures at_most { result ≤ SLOTS * length self.now.groups }
     {
         walks::live(self.row.as_slice())
+    }
+
+    /// What a group has together with one after each `gap` others.
+    pub(crate) fn sample(&self, gap: u32) -> Sample
+        ensures samples { Samples gap self.now.groups result }
+        ensures few { result.pages ≤ length self.now.groups }
+        ensures few_live { result.live ≤ SLOTS * length self.now.groups }
+    {
+        walks::sample(self.row.as_slice(), gap)
     }
 
     /// How many spans they have, heads and guests.

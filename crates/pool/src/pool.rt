@@ -31,6 +31,7 @@ mod logs;
 mod moves;
 mod replacing;
 mod retiring;
+mod sampling;
 
 /// The groups that shards have let go, at an end or before, by ascending head; those that have a
 /// live slot have a page.

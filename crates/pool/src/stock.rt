@@ -10,6 +10,7 @@ ghost use Rattle.pool.specs.Calls.{Frees, HasNothingToAdopt, IsHeadOfLowest, IsI
 ghost use Rattle.pool.specs.Groups.{HasAtPlace, HasHeadAt};
 ghost use Rattle.pool.specs.Shown.{shown};
 ghost use Rattle.pool.specs.Sound.{IsSound};
+ghost use Rattle.pool.specs.Samples.{Samples};
 ghost use Rattle.pool.specs.Sparse.{HaveSparsest};
 ghost use Rattle.pool.specs.State.{no_groups, paged_groups};
 ghost use Rattle.groups.specs.Group.{HasNoHead, IsElsewhere, live_in, summary};
@@ -19,7 +20,7 @@ ghost use Rattle.bitmap.specs.declared.bits.TheConstants.{SLOTS};
 use crate::group_table::GroupTable;
 use crate::pooled::Pooled;
 use groups::Directory;
-use shard::{Freed, Shard};
+use shard::{Freed, Sample, Shard};
 use span::names::{Entry, Key, SpanId};
 use span::spans::Log;
 use std::alloc::{AllocError, Global};
@@ -117,6 +118,16 @@ impl<L: Log> Stock<L> {
         ensures groups { length self.now.groups ≤ ALL_IDS }
     {
         self.groups.live()
+    }
+
+    /// What a group has together with one after each `gap` others.
+    pub(crate) fn sample(&self, gap: u32) -> Sample
+        ensures samples { Samples gap self.now.groups result }
+        ensures few { result.pages ≤ length self.now.groups }
+        ensures few_live { result.live ≤ SLOTS * length self.now.groups }
+        ensures groups { length self.now.groups ≤ ALL_IDS }
+    {
+        self.groups.sample(gap)
     }
 
     /// The entry of each group that has a page, by ascending head.

@@ -3,16 +3,18 @@ ghost use Rattle.std.specs.Prelude.{◌≡◌, ◌≤◌, ◌+◌, ◌++◌, ◌
 ghost use Rattle.span.specs.SpanLogs.{AreLegal, room_for_logs, span_of_log};
 ghost use Rattle.span.specs.Ids.{rank};
 ghost use Rattle.groups.specs.FirstLive.{IsFirstAmong};
-ghost use Rattle.groups.specs.Group.{paged_in, spans_in, summary};
+ghost use Rattle.groups.specs.Group.{live_in, paged_in, spans_in, summary};
 ghost use Rattle.groups.specs.Spans.{live_count};
 ghost use Rattle.groups.specs.Least.{IsLeast, KnowsLeast};
 ghost use Rattle.pool.specs.Sparse.{AreParted};
+ghost use Rattle.shard.specs.Spaced.{spaced};
 ghost use Rattle.span.specs.declared.limits.TheConstants.{ALL_IDS};
 ghost use Rattle.bitmap.specs.declared.bits.TheConstants.{SLOTS};
 
 use crate::pooled::Pooled;
 use crate::sparse::push_below;
 use groups::{earlier, least_of};
+use shard::Sample;
 use span::names::{Entry, Key, SpanId};
 use span::spans::{Kept, Log, SpanLog};
 use std::alloc::{AllocError, Global};
@@ -43,6 +45,30 @@ pub(crate) fn live<L: Log>(groups: &[Pooled<L>]) -> usize
         }
     }
     live
+}
+
+/// How many of the first and of one after each `gap` others have a page, and how many keys are live
+/// in these.
+pub(crate) fn sample<L: Log>(groups: &[Pooled<L>], gap: u32) -> Sample
+    requires { length groups.now ≤ ALL_IDS }
+    ensures pages { result.pages ≡ length (paged_in (spaced gap groups.now)) }
+    ensures live { result.live ≡ live_in (paged_in (spaced gap groups.now)) }
+    ensures few { result.pages ≤ length groups.now }
+    ensures few_live { result.live ≤ SLOTS * length groups.now }
+{
+    let step = gap as usize + 1;
+    let mut pages = 0;
+    let mut live = 0;
+    let mut index = 0;
+    while index < groups.len() {
+        let group = &groups[index];
+        if group.is_paged() {
+            pages += 1;
+            live += group.live();
+        }
+        index += step;
+    }
+    Sample { pages, live }
 }
 
 /// How many spans they have, heads and guests.

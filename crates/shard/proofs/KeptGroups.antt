@@ -1,7 +1,6 @@
 -- What a shard keeps beside its groups, where one of them is replaced, or none.
-use Rattle.std.proofs.Common.{◌≡◌, ◌+◌, ◌<◌, ◌≤◌, ℕ, List, length, length-set, Some, set, slice_get, ◌∙◌, ap, arith, rules}
+use Rattle.std.proofs.Common.{◌≡◌, ◌+◌, ◌<◌, ◌≤◌, ℕ, List, length, length-set, Some, set, slice_get, ◌∙◌, ap, arith, rules, sym}
 use Rattle.std.specs.Prelude.{map as map_list, vec_len}
-use Rattle.std.proofs.lemmas.List.{length-map}
 use Rattle.std.specs.Global.{Vec}
 use Rattle.bitmap.specs.Numbers.{NumbersState}
 use Rattle.span.specs.declared.class.Class.{Class}
@@ -18,7 +17,7 @@ use Rattle.shard.specs.Rooms.{HasRooms, room_of, rooms_of}
 use Rattle.shard.specs.Sound.{IsSound}
 use Rattle.shard.specs.declared.shard.Shard.TheInside.{Inside}
 use Rattle.shard.proofs.AlikeGroups.{HasGuestRoom-alike, IsSound-alike, alike, bare}
-use Rattle.shard.proofs.ClassesHere.{HaveRoom-map, HaveRoom-same, HaveRoom-set}
+use Rattle.shard.proofs.ClassesHere.{HaveRoom-from, HaveRoom-same, HaveRoom-set}
 use Rattle.shard.proofs.GuestRoom.{HasGuestRoom-replaced}
 use Rattle.shard.proofs.KnownGuests.{KnowsGuests-alike}
 use Rattle.shard.proofs.KnownHeads.{KnowsHeads-alike, KnowsHeads-more, KnowsHeads-set}
@@ -83,12 +82,12 @@ module _ {L : Type 0} (s : Inside L) (kept : IsKept s) (groups : RowState) (room
   }
 
   -- only flags and pages change
-  pub IsKept-alike : (least : Vec ℕ) → vec_len s.least ≤ vec_len least → (f : GroupState → GroupState) → ((group : GroupState) → (f group).head.class ≡ group.head.class) → groups.items ≡ map_list f s.groups.items
-      → map_list bare groups.items ≡ map_list bare s.groups.items → s.groups.room ≤ groups.room → AreSoundGroups groups.items
+  pub IsKept-alike : (least : Vec ℕ) → vec_len s.least ≤ vec_len least → map_list bare groups.items ≡ map_list bare s.groups.items → s.groups.room ≤ groups.room → AreSoundGroups groups.items
       → ((class : Class) → HasRooms s.slot_limit class groups.items (rooms_of rooms class)) → ((class : Class) → room_of s.rooms class ≤ room_of rooms class)
       → KnowsLeast groups.items least.items → IsKept (record after { least = least })
-  IsKept-alike least bytes f class_is is same capacity sound has more known =
-      let many = (alike s.groups.items groups.items same).many in
+  IsKept-alike least bytes same capacity sound has more known =
+      let is = alike s.groups.items groups.items same in
+      let many = is.many in
       record {
         number_fits = kept.number_fits;
         pages_fit = kept.pages_fit;
@@ -96,8 +95,9 @@ module _ {L : Type 0} (s : Inside L) (kept : IsKept s) (groups : RowState) (room
         sound = IsSound-alike (state_of s) groups.items same sound kept.sound;
         rooms = has;
         room_for_groups = omega (arith, kept.room_for_groups, capacity, many);
-        room_for_rooms = rw is
-            (HaveRoom-map s.groups.items s.rooms (length s.groups.items + s.group_room) kept.room_for_rooms f class_is rooms _ (omega (arith, length-map s.groups.items f)) more);
+        room_for_rooms = HaveRoom-from s.groups.items s.rooms (length s.groups.items + s.group_room) kept.room_for_rooms groups.items rooms _ (omega (arith, many)) more (λ index group there.
+            let before = is.stood index group there in
+            (index, before.0, before.1, ap (λ (g : GroupState). g.head.class) (sym before.2)));
         room_for_class = λ some class. omega (arith, kept.room_for_class some class, more class, many);
         room_for_guests = HasGuestRoom-alike (state_of s) groups.items same s.guests.onto s.guests.span_room s.guests.list_room kept.room_for_guests;
         guests_known = KnowsGuests-alike s.groups.items s.guests.directory.entries kept.guests_known groups.items same;

@@ -30,11 +30,14 @@ mod moves;
 mod putting;
 mod replacing;
 mod retiring;
+mod sampling;
 mod trimming;
 mod walking;
 
 pub use replacing::Replaced;
 pub use retiring::LiveGroup;
+pub use sampling::{Sample, gap_of};
+pub use trimming::TrimPart;
 
 /// What a look-up finds. A `usize` is the number of changes in the log of the key's span.
 #[derive(Clone, Copy, PartialEq, Eq, Debug)]

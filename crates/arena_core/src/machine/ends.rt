@@ -6,6 +6,7 @@ ghost use Rattle.arena_core.specs.Made.{IsUnused};
 ghost use Rattle.arena_core.specs.Sound.{IsSound};
 ghost use Rattle.arena_core.specs.State.{shown};
 ghost use Rattle.arena_core.specs.Step.{CoreStep};
+ghost use Rattle.arena_core.specs.TrimsPart.{TrimsOrCannot};
 ghost use Rattle.arena_core.specs.declared.event.Event.TheVariants as event;
 ghost use Rattle.arena_core.specs.declared.reply.Reply.TheVariants as reply;
 
@@ -13,6 +14,7 @@ use super::Core;
 use super::making::reach;
 use super::plans::spans_to_come;
 use crate::reply::{Refusal, adopt_refusal, end_refusal};
+use shard::TrimPart;
 use span::names::SpanId;
 use span::spans::Log;
 
@@ -119,6 +121,39 @@ impl<L: Log> Core<L> {
             return self.trim_none(number);
         };
         Ok(shard.trim())
+    }
+
+    /// What [`Core::trim`] does, but of up to `most` groups of the shard alone, from its group
+    /// `from` on: there are fewer than `most` only if no more follow. A part takes as long as its
+    /// groups do, however many the shard has. It is no event.
+    ///
+    /// It is refused by [`Refusal::Config`] exactly if there is no such shard.
+    pub fn trim_some(&mut self, number: u32, from: usize, most: usize) -> Result<TrimPart, Refusal>
+        ensures exact { TrimsOrCannot number from most self.old result self.new }
+        ensures same { shown self.new ≡ shown self.old }
+        ensures sound { IsSound self.new }
+    {
+        let Some(shard) = self.shards.get_mut(number as usize) else {
+            return self.trim_no_part(number, from, most);
+        };
+        Ok(shard.trim_some(from, most))
+    }
+
+    // The same of a shard that is not made, and so has no group.
+    fn trim_no_part(&self, number: u32, from: usize, most: usize) -> Result<TrimPart, Refusal>
+        requires { IsUnused self.now number }
+        ensures { TrimsOrCannot number from most self.now result self.now }
+    {
+        // For the prover: from where on, and how many.
+        let _ = (from, most);
+        let count = self.limits.shards();
+        if number >= count {
+            return Err(Refusal::Config);
+        }
+        Ok(TrimPart {
+            groups: 0,
+            pages: 0,
+        })
     }
 
     // A trim of a shard that is not made, and so has no page.

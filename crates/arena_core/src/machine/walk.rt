@@ -75,15 +75,6 @@ impl<L: Log> Core<L> {
         }
     }
 
-    // How many groups there are, of shards and of the pool.
-    fn group_count(&self) -> usize {
-        let mut count = self.pool.len();
-        for shard in self.shards.iter() {
-            count = count.saturating_add(shard.len());
-        }
-        count
-    }
-
     // The first live key of the spans that the shard of this number opened from this serial on, up
     // to the other one.
     fn first_in_spans(&self, shard: u32, from: u32, end: u32) -> Option<Key>

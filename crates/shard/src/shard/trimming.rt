@@ -1,15 +1,24 @@
 // Pages with nothing live, which go while the shard goes on.
-ghost use Rattle.std.specs.Prelude.{◌≡◌, ◌<◌, Some, is_some, length, map, slice_get};
+ghost use Rattle.std.specs.Prelude.{◌≡◌, ◌-◌, ◌<◌, ◌≤◌, Some, drop, is_some, length, slice_get, take};
 ghost use Rattle.std.specs.List.{filter};
 ghost use Rattle.shard.specs.Group.{GroupState};
 ghost use Rattle.shard.specs.Shown.{shown};
 ghost use Rattle.shard.specs.Sound.{IsSound};
-ghost use Rattle.shard.specs.Trims.{Trims, is_idle, trimmed};
+ghost use Rattle.shard.specs.Trims.{Trims, TrimsSome, changed_from, is_idle, trimmed};
 
 use super::Shard;
 use crate::group_row::GroupRow;
 use span::spans::Log;
 use std::alloc::{AllocError, Global};
+
+/// What a trim of some groups did.
+#[derive(Clone, Copy, PartialEq, Eq, Debug)]
+pub struct TrimPart {
+    /// How many groups these are.
+    pub groups: usize,
+    /// How many of them gave their page back.
+    pub pages: usize,
+}
 
 impl<L: Log> Shard<L> {
     /// Gives back the page of each open group in which no slot is live, and answers how many went.
@@ -20,7 +29,23 @@ impl<L: Log> Shard<L> {
         ensures plain { shown self.new ≡ shown self.old }
         ensures sound { IsSound self.new }
     {
-        trim_all(&mut self.groups, self.alloc)
+        let end = self.groups.len();
+        trim_each(&mut self.groups, self.alloc, 0, end)
+    }
+
+    /// What [`Shard::trim`] does, but of up to `most` groups alone, from the index `from` on, by
+    /// ascending head. There are fewer than `most` only if no more follow. It takes no memory.
+    pub fn trim_some(&mut self, from: usize, most: usize) -> TrimPart
+        ensures trims { TrimsSome from most self.old result self.new }
+        ensures plain { shown self.new ≡ shown self.old }
+        ensures sound { IsSound self.new }
+    {
+        let end = from.saturating_add(most).min(self.groups.len());
+        let pages = trim_each(&mut self.groups, self.alloc, from, end);
+        TrimPart {
+            groups: end.saturating_sub(from),
+            pages,
+        }
     }
 
     /// Moves the page of the group at the index, if it has one, to a block that it asks for now,
@@ -48,17 +73,19 @@ impl<L: Log> Shard<L> {
     }
 }
 
-// Trims the groups, and says how many gave their page back.
-fn trim_all<L: Log>(groups: &mut GroupRow<L>, alloc: Global) -> usize
-    ensures items { groups.new.items ≡ map trimmed groups.old.items }
-    ensures count { result ≡ length (filter is_idle groups.old.items) }
+// Trims the groups from one index on up to another, and says how many gave their page back.
+fn trim_each<L: Log>(groups: &mut GroupRow<L>, alloc: Global, from: usize, end: usize) -> usize
+    requires { end ≤ length groups.old.items }
+    ensures items { groups.new.items ≡ changed_from trimmed from (end - from) groups.old.items }
+    ensures pages { result
+        ≡ length (filter is_idle (take (end - from) (drop from groups.old.items))) }
     ensures capacity { groups.new.room ≡ groups.old.room }
 {
-    let mut count = 0;
-    for index in 0..groups.len() {
+    let mut pages = 0;
+    for index in from..end {
         if groups[index].trim(alloc) {
-            count += 1;
+            pages += 1;
         }
     }
-    count
+    pages
 }
