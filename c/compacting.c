@@ -145,6 +145,42 @@ static void if_it_pays(void) {
     teurlaks_drop(&core);
 }
 
+/* Pages of one object each, of which the first half is freed, are told by every other one; and they
+ * are trimmed in parts, each of so many. */
+static void of_many_pages(void) {
+    enum { MANY = 6001, PART = 64 };
+    static struct teurlaks_key of_pages[MANY];
+    struct teurlaks_handle core = {0};
+    WANT(teurlaks_new_with_slots(&core, 1, MANY, MANY, 1, 1, 9) == TEURLAKS_OK);
+    for (unsigned number = 0; number < MANY; number++) {
+        struct teurlaks_put_reply put = teurlaks_put(&core, 0, (struct teurlaks_word){number, 0});
+        WANT(put.status == TEURLAKS_OK);
+        of_pages[number] = put.key;
+        struct teurlaks_totals_reply about = teurlaks_estimate(&core);
+        size_t pages = number < 4096 ? number + 1 : (number + 2) / 2 * 2;
+        WANT(about.pages == pages && about.live == pages);
+    }
+    for (unsigned number = 0; number < MANY / 2; number++) {
+        WANT(teurlaks_free(&core, of_pages[number]) == TEURLAKS_OK);
+    }
+    struct teurlaks_totals_reply about = teurlaks_estimate(&core);
+    WANT(about.pages == MANY + 1 && about.live == MANY + 1 - MANY / 2);
+    /* Some pages must stay, so not all can go. */
+    WANT(teurlaks_compact_if_pays(&core, 100).pages == 0);
+    size_t from = 0;
+    struct teurlaks_trim_part_reply part;
+    do {
+        part = teurlaks_trim_some(&core, 0, from, PART);
+        size_t idle = from < MANY / 2 ? MANY / 2 - from : 0;
+        WANT(part.status == TEURLAKS_OK && part.pages == (idle < PART ? idle : PART));
+        from += part.groups;
+    } while (part.groups == PART);
+    WANT(from == MANY && teurlaks_trim_some(&core, 0, from, PART).groups == 0);
+    WANT(teurlaks_trim_some(&core, 1, 0, PART).status == TEURLAKS_CONFIG);
+    WANT(teurlaks_totals(&core).pages == MANY - MANY / 2);
+    teurlaks_drop(&core);
+}
+
 /* One compaction with an allocation failing, if it pays or in parts; whether one did. */
 static int failing_after(long allocations, int if_it_pays) {
     struct teurlaks_handle core = {0};
@@ -176,6 +212,7 @@ int main(void) {
     by_steps();
     plans_of_a_caller();
     if_it_pays();
+    of_many_pages();
     long runs = 0, of_parts = 0;
     while (failing_after(runs, 1)) runs++;
     while (failing_after(of_parts, 0)) of_parts++;

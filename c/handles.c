@@ -44,11 +44,14 @@ static void each_call(struct teurlaks_handle *none, struct teurlaks_key key) {
     WANT(teurlaks_next_in_span(none, (struct teurlaks_span){0, 0}, 0).status == TEURLAKS_NO_CORE);
     WANT(teurlaks_contains(none, key) == TEURLAKS_NO_CORE);
     WANT(teurlaks_totals(none).pages == 0 && teurlaks_totals(none).live == 0);
+    WANT(teurlaks_estimate(none).pages == 0 && teurlaks_estimate(none).live == 0);
     WANT(teurlaks_end(none, 0) == TEURLAKS_NO_CORE);
     WANT(teurlaks_begin(none, 0) == TEURLAKS_NO_CORE);
     WANT(teurlaks_retire(none, 0, 9).status == TEURLAKS_NO_CORE &&
          teurlaks_retire(none, 0, 9).count == 0);
     WANT(teurlaks_trim(none, 0).status == TEURLAKS_NO_CORE && teurlaks_trim(none, 0).count == 0);
+    WANT(teurlaks_trim_some(none, 0, 0, 9).status == TEURLAKS_NO_CORE &&
+         teurlaks_trim_some(none, 0, 0, 9).groups == 0);
     WANT(teurlaks_gather(none, 0, 0, 9).status == TEURLAKS_NO_CORE &&
          teurlaks_gather(none, 0, 0, 9).count == 0);
     WANT(teurlaks_forget(none).status == TEURLAKS_NO_CORE && teurlaks_forget(none).count == 0);

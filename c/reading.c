@@ -111,6 +111,7 @@ static void *read_all(void *with) {
             size_t met = 0;
             while ((next = teurlaks_next(core, next.key)).status == TEURLAKS_OK) met++;
             want(met == teurlaks_totals(core).live, "a walk meets each live key");
+            want(met == teurlaks_estimate(core).live, "an estimate of few groups counts each");
             read_large(core);
             read_certificate(core);
         }

@@ -204,6 +204,13 @@ struct teurlaks_trim_reply {
     size_t count;
 };
 
+/* How many groups were trimmed, and how many pages went, if the status is TEURLAKS_OK; else 0. */
+struct teurlaks_trim_part_reply {
+    uint32_t status;
+    size_t groups;
+    size_t pages;
+};
+
 /* How many spans went, where the status is TEURLAKS_OK; else 0. */
 struct teurlaks_forget_reply {
     uint32_t status;
@@ -366,6 +373,10 @@ uint32_t teurlaks_contains(const struct teurlaks_handle *handle, struct teurlaks
 /* How much is kept. */
 struct teurlaks_totals_reply teurlaks_totals(const struct teurlaks_handle *handle);
 
+/* About how much is kept: exactly that if there are at most 4,096 groups. Of more it looks at one
+ * of each so many, so that it takes no longer. */
+struct teurlaks_totals_reply teurlaks_estimate(const struct teurlaks_handle *handle);
+
 /* Ends the shard: its groups go to the pool, with their pages, and it takes no object until it
  * begins again. */
 uint32_t teurlaks_end(struct teurlaks_handle *handle, uint32_t shard);
@@ -386,6 +397,12 @@ struct teurlaks_retire_reply teurlaks_retire(struct teurlaks_handle *handle, uin
  * open plan. The groups stay, and a later put into one of them opens a page for it. TEURLAKS_CONFIG
  * where there is no such shard, and no other refusal. Takes no memory. */
 struct teurlaks_trim_reply teurlaks_trim(struct teurlaks_handle *handle, uint32_t shard);
+
+/* As teurlaks_trim, but of up to `most` groups of the shard alone, from its group `from` on, so
+ * that a call takes no longer if the shard has more. There are fewer than `most` only if no more
+ * follow. */
+struct teurlaks_trim_part_reply teurlaks_trim_some(struct teurlaks_handle *handle, uint32_t shard,
+                                                   size_t from, size_t most);
 
 /* Forgets the spans that can never be live again, with their generations: those that were folded
  * and of which nothing is live, and those of the pool on whose page nothing is live any more. What
@@ -441,8 +458,9 @@ struct teurlaks_compact_reply teurlaks_compact_within(struct teurlaks_handle *ha
  * nothing, with status TEURLAKS_OK: so it may be asked as often as one likes. How many could go is
  * known from counts alone: the pages without those that the live keys would need if these were
  * full, and without as many as the last compaction has left that could have gone by this count. A
- * page counts as one of 256 slots until a mark of a compaction has seen some. To count takes a look
- * at each page. A compaction that is under way goes on; refusals are as above, with `more` 1. */
+ * page counts as one of 256 slots until a mark of a compaction has seen some. The counts are those
+ * of teurlaks_estimate, so to do nothing takes no longer if there are more pages. A compaction that
+ * is under way goes on; refusals are as above, with `more` 1. */
 struct teurlaks_compact_reply teurlaks_compact_if_pays(struct teurlaks_handle *handle,
                                                        size_t percent);
 

@@ -205,6 +205,12 @@ teurlaks_tested_totals(const struct teurlaks_handle *handle) {
     return handle ? teurlaks_totals(handle) : none;
 }
 
+TEURLAKS_INLINE struct teurlaks_totals_reply
+teurlaks_tested_estimate(const struct teurlaks_handle *handle) {
+    struct teurlaks_totals_reply none = {0, 0};
+    return handle ? teurlaks_estimate(handle) : none;
+}
+
 TEURLAKS_INLINE uint32_t teurlaks_tested_end(struct teurlaks_handle *handle, uint32_t shard) {
     return handle ? teurlaks_end(handle, shard) : (uint32_t)TEURLAKS_NO_CORE;
 }
@@ -229,6 +235,13 @@ TEURLAKS_INLINE struct teurlaks_trim_reply teurlaks_tested_trim(struct teurlaks_
                                                                 uint32_t shard) {
     struct teurlaks_trim_reply none = {TEURLAKS_NO_CORE, 0};
     return handle ? teurlaks_trim(handle, shard) : none;
+}
+
+TEURLAKS_INLINE struct teurlaks_trim_part_reply
+teurlaks_tested_trim_some(struct teurlaks_handle *handle, uint32_t shard, size_t from,
+                          size_t most) {
+    struct teurlaks_trim_part_reply none = {TEURLAKS_NO_CORE, 0, 0};
+    return handle ? teurlaks_trim_some(handle, shard, from, most) : none;
 }
 
 TEURLAKS_INLINE struct teurlaks_compact_reply
@@ -556,10 +569,12 @@ teurlaks_tested_steward_totals(struct teurlaks_share_handle *handle) {
 #define teurlaks_next_in_span teurlaks_tested_next_in_span
 #define teurlaks_contains teurlaks_tested_contains
 #define teurlaks_totals teurlaks_tested_totals
+#define teurlaks_estimate teurlaks_tested_estimate
 #define teurlaks_end teurlaks_tested_end
 #define teurlaks_begin teurlaks_tested_begin
 #define teurlaks_retire teurlaks_tested_retire
 #define teurlaks_forget teurlaks_tested_forget
+#define teurlaks_trim_some teurlaks_tested_trim_some
 #define teurlaks_gather teurlaks_tested_gather
 #define teurlaks_trim teurlaks_tested_trim
 #define teurlaks_compact_within teurlaks_tested_compact_within

@@ -16,8 +16,9 @@ use std::time::Duration;
 #[derive(Clone, Copy, Debug, PartialEq, Eq, Hash)]
 pub struct Policy {
     /// How long it sleeps between two looks at the numbers of pages and of live keys. Less than a
-    /// millisecond counts as one. To count pages takes a walk of them: it does so where enough keys
-    /// were freed since the last time, and at every eighth look.
+    /// millisecond counts as one. To count pages takes a look at up to 4,096 of each shard, or at
+    /// each of an [`Arena`](crate::Arena): it does so where enough keys were freed since the last
+    /// time, and at every eighth look.
     pub interval: Duration,
     /// How many steps a part of a compaction has: after each the thread lets others run, and looks
     /// whether it is to end.
@@ -52,7 +53,7 @@ impl Policy {
 
 /// What is compacted in the background.
 pub(crate) trait Compacts: Send + 'static {
-    /// How many pages there are, and how many of them can go at most. It walks all pages.
+    /// About how many pages there are, and how many of them can go at most.
     fn pages_and_most_folds(&self) -> (usize, usize);
 
     /// How many keys are live, if that is known with no such walk.

@@ -108,6 +108,8 @@ pub struct Core {
     // A bit for each shard of which a trim has left groups without a page since such were given up.
     emptied: u64,
     gathering: Gathering,
+    // The shard and the group that the next part of a trim in turn begins with.
+    next_trim: (u8, u32),
 }
 
 /// Whose plan is open.
@@ -153,6 +155,7 @@ impl Core {
             emptied: 0,
             gone: 0,
             gathering: Gathering::default(),
+            next_trim: (0, 0),
             stay: 0,
         })
     }
@@ -543,13 +546,34 @@ impl Core {
         Occupancy {
             pages: self.pages(),
             live: self.live,
+            ..self.unoccupied()
+        }
+    }
+
+    // No page of the slots that pages have here.
+    fn unoccupied(&self) -> Occupancy {
+        Occupancy {
+            pages: 0,
+            live: 0,
             slots: (self.limits).slots_of(slots_for(usize::from(self.least_words))),
         }
     }
 
-    /// How many pages there are, and how many of them can go at most.
+    /// About how many pages there are, and about how many keys are live on them: exactly so of few
+    /// groups. It takes no longer of many.
+    pub(crate) fn estimate(&self) -> Occupancy {
+        // SAFETY: as in `get`.
+        let raw::TotalsReply { pages, live } = unsafe { raw::teurlaks_estimate(&self.handle) };
+        Occupancy {
+            pages,
+            live,
+            ..self.unoccupied()
+        }
+    }
+
+    /// About how many pages there are, and how many of them can go at most.
     pub(crate) fn pages_and_most_folds(&self) -> (usize, usize) {
-        let pages = self.occupancy();
+        let pages = self.estimate();
         (pages.pages, pages.most_folds())
     }
 }

@@ -124,6 +124,14 @@ pub struct TrimReply {
 
 #[repr(C)]
 #[derive(Clone, Copy)]
+pub struct TrimPartReply {
+    pub status: u32,
+    pub groups: usize,
+    pub pages: usize,
+}
+
+#[repr(C)]
+#[derive(Clone, Copy)]
 pub struct ForgetReply {
     pub status: u32,
     pub count: usize,
@@ -279,6 +287,7 @@ extern "C" {
     pub fn teurlaks_next(handle: *const Handle, after: RawKey) -> NextReply;
     pub fn teurlaks_contains(handle: *const Handle, key: u64, key_high: u32) -> u32;
     pub fn teurlaks_totals(handle: *const Handle) -> TotalsReply;
+    pub fn teurlaks_estimate(handle: *const Handle) -> TotalsReply;
     pub fn teurlaks_key_bits(shards: u32, spans: u32, generations: u32) -> KeyBitsReply;
     pub fn teurlaks_key_to_u64(bits: RawKeyBits, key: RawKey) -> NumberReply;
     pub fn teurlaks_key_from_u64(bits: RawKeyBits, number: u64) -> KeyReply;
@@ -286,6 +295,12 @@ extern "C" {
     pub fn teurlaks_begin(handle: *mut Handle, shard: u32) -> u32;
     pub fn teurlaks_retire(handle: *mut Handle, shard: u32, most: usize) -> RetireReply;
     pub fn teurlaks_trim(handle: *mut Handle, shard: u32) -> TrimReply;
+    pub fn teurlaks_trim_some(
+        handle: *mut Handle,
+        shard: u32,
+        from: usize,
+        most: usize,
+    ) -> TrimPartReply;
     pub fn teurlaks_forget(handle: *mut Handle) -> ForgetReply;
     pub fn teurlaks_gather(
         handle: *mut Handle,

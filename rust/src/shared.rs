@@ -457,9 +457,9 @@ impl<T> SharedStore<T> {
     /// as [`SharedStore::forget_shard`] does.
     ///
     /// Others go on meanwhile, in this shard too. Its lock is held for 50 µs and one step at a
-    /// time, which may be the trim, or a plan of 64 groups beside the others; then it is let go of
-    /// for those who wait. A value that is kept there meanwhile may take a new page. Another
-    /// compaction of the shard waits for this one.
+    /// time, which may be a trim of 64 pages, or a plan of 64 groups beside the others; then it is
+    /// let go of for those who wait. A value that is kept there meanwhile may take a new page.
+    /// Another compaction of the shard waits for this one.
     ///
     /// As of [`Core::compact`](crate::Core::compact), each fold uses up one of the 4,294,967,295
     /// pages that a shard may open in its life.

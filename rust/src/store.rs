@@ -440,6 +440,16 @@ impl<T> Store<T> {
         self.core.pages_and_most_folds()
     }
 
+    /// Trims some groups, as [`Core::trim_some`] says.
+    pub(crate) fn trim_some(
+        &mut self,
+        shard: u32,
+        from: usize,
+        most: usize,
+    ) -> Result<(usize, usize), Refused> {
+        self.core.trim_some(shard, from, most)
+    }
+
     /// Takes steps of a compaction until the caller has had enough, as [`Core::compact_until`].
     pub(crate) fn compact_until(
         &mut self,

@@ -247,8 +247,8 @@ fn exported() -> Declarations {
             &mut declarations,
         );
     }
-    assert_eq!(declarations.functions.len(), 74);
-    assert_eq!(declarations.structs.len(), 29);
+    assert_eq!(declarations.functions.len(), 76);
+    assert_eq!(declarations.structs.len(), 30);
     for name in READING {
         let (params, _) = declarations.functions.get_mut(name).expect("an export");
         params[0].1 = "*const Handle".into();
@@ -258,7 +258,7 @@ fn exported() -> Declarations {
 
 /// The calls that only read a core. The exports of Rattle declare `&mut Handle` for each; Rust and
 /// C declare it as a pointer through which nothing is written.
-const READING: [&str; 8] = [
+const READING: [&str; 9] = [
     "teurlaks_contains",
     "teurlaks_get",
     "teurlaks_get_words",
@@ -266,6 +266,7 @@ const READING: [&str; 8] = [
     "teurlaks_next",
     "teurlaks_next_in_span",
     "teurlaks_totals",
+    "teurlaks_estimate",
     "teurlaks_certificate",
 ];
 

@@ -96,6 +96,8 @@ impl Compaction {
     /// How many could go is known from counts alone: the pages without those that the live keys
     /// would need if these were full, and without as many as the last compaction has left that
     /// could have gone by this count. A page counts as one of 256 slots until a mark has seen some.
+    /// The counts are those of [`Core::estimate`], which looks at 4,096 groups at most: so to pass
+    /// over takes no longer if there are more pages.
     pub fn go_on_if_pays(&mut self, core: &mut Core<Counted>, least_percent: usize) -> Compacted
         ensures either { CompactsIfPays result (going self.old core.old) (going self.new core.new) }
         ensures same { shown core.new ≡ shown core.old }
@@ -120,7 +122,7 @@ impl Compaction {
     {
         let has_plan = core.has_plan();
         let is_begun = !matches!(self.progress.phase, Phase::Fresh);
-        let pays = self.work.pays(core.totals(), least_percent);
+        let pays = self.work.pays(core.estimate(), least_percent);
         !has_plan && !is_begun && !pays
     }
 

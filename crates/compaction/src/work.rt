@@ -157,7 +157,7 @@ impl Work {
             None => {
                 self.round = Round::of_pool();
                 self.stage = Stage::End;
-                self.past = self.past.with_left(totals);
+                self.past = self.past.with_left(core.estimate());
             }
         }
     }

@@ -14,12 +14,17 @@ use Rattle.arena_core.specs.declared.reply.Reply.{Reply}
 use Rattle.arena_core.specs.declared.reply.Reply.TheVariants.{Issued, Replaced, Freed, ShardEnded, ShardBegun, Retired, Trimmed, Adopted, Marked, Stepped, NoPairLeft, Closed, NoPlan, Refused}
 use Rattle.arena_core.specs.declared.reply.Refusal.{Refusal}
 use Rattle.arena_core.specs.declared.reply.Refusal.TheVariants.{Config, OutOfMemory, PlanOpen}
+use Rattle.arena_core.specs.Estimate.{IsEstimate, group_count}
 use Rattle.arena_core.specs.Forgets.{Forgets as ForgetsIn}
 use Rattle.arena_core.specs.Gathers.{CannotGather, Gathers as GathersIn}
 use Rattle.arena_core.specs.Plain.{ErasedStep}
 use Rattle.arena_core.specs.Sound.{IsSound}
-use Rattle.arena_core.specs.State.{CoreState, HasKeys, new_core, pages, shown}
+use Rattle.arena_core.specs.State.{CoreState, HasKeys, live_keys, new_core, pages, shown}
+use Rattle.arena_core.specs.TrimsPart.{TrimsOrCannot}
 use Rattle.marks.specs.Numbers.{Limits}
+use Rattle.marks.specs.declared.totals.Totals.{Totals}
+use Rattle.shard.specs.Spaced.{gap_of}
+use Rattle.shard.specs.declared.shard.trimming.TrimPart.{TrimPart}
 use Rattle.arena_core.specs.Step.{CoreStep, HasPlan}
 use Rattle.compaction.specs.Progress.{fresh}
 use Rattle.teurlaks_c.specs.declared.held.Held.{Held}
@@ -33,6 +38,7 @@ use Rattle.teurlaks_c.specs.declared.replies.WordsReply.{WordsReply}
 use Rattle.teurlaks_c.specs.declared.replies.NextReply.{NextReply}
 use Rattle.teurlaks_c.specs.declared.replies.RetireReply.{RetireReply}
 use Rattle.teurlaks_c.specs.declared.replies.TrimReply.{TrimReply}
+use Rattle.teurlaks_c.specs.declared.replies.TrimPartReply.{TrimPartReply}
 use Rattle.teurlaks_c.specs.declared.replies.ForgetReply.{ForgetReply}
 use Rattle.teurlaks_c.specs.declared.replies.GatherReply.{GatherReply}
 use Rattle.teurlaks_c.specs.declared.replies.AdoptReply.{AdoptReply}
@@ -252,6 +258,29 @@ abbrev pub Trims : Option Held → ℕ → TrimReply → Option Held → Type 0
 Trims old shard says new = (reply : Reply) × Steps old (Trim shard) reply new
     × SaysTrimmed says reply
 
+-- what C reads of the answer to a trim of some groups
+abbrev pub SaysPart : TrimPartReply → Result TrimPart Refusal → Type 0
+SaysPart says (Ok part) = (says.status ≡ done) × (says.groups ≡ part.groups)
+    × (says.pages ≡ part.pages)
+SaysPart says (Err refusal) = (says.status ≡ refusal_status refusal) × (says.groups ≡ 0)
+    × (says.pages ≡ 0)
+
+-- up to so many groups of the shard are trimmed, from this one on, or there is no such shard; the
+-- map that the core shows stays, and so do the certificate that is kept and the compaction
+pub record TrimsPart (old : Option Held) (shard from most : ℕ) (says : TrimPartReply)
+    (new : Option Held) : Type 0 where
+  pub before : Held
+  pub after : Held
+  pub answer : Result TrimPart Refusal
+  pub before_is : old ≡ Some before
+  pub after_is : new ≡ Some after
+  pub exact : TrimsOrCannot shard from most before.core answer after.core
+  pub plain : shown after.core ≡ shown before.core
+  pub sound : IsSound after.core
+  pub same : after.last ≡ before.last
+  pub compaction : after.compaction ≡ before.compaction
+  pub says_is : SaysPart says answer
+
 -- what C reads of the answer to a forgetting
 abbrev pub SaysForgotten : ForgetReply → Result ℕ Refusal → Type 0
 SaysForgotten says (Ok count) = (says.status ≡ done) × (says.count ≡ count)
@@ -400,3 +429,18 @@ pub record Counts (old : Option Held) (says : TotalsReply) (new : Option Held) :
   pub same : new ≡ old
   pub pages : says.pages ≡ pages held.core
   pub live : HasKeys (shown held.core) says.live
+
+-- what C reads of totals
+abbrev pub says_totals : TotalsReply → Totals
+says_totals says = record { pages = says.pages; live = says.live }
+
+-- about the pages and the live keys of the core, which stays as it is: exactly these if there are
+-- few groups
+pub record Estimates (old : Option Held) (says : TotalsReply) (new : Option Held) : Type 0 where
+  pub held : Held
+  pub is : old ≡ Some held
+  pub same : new ≡ old
+  pub few_pages : group_count held.core ≤ 4096 → says.pages ≡ pages held.core
+  pub few_live : group_count held.core ≤ 4096 → says.live ≡ live_keys held.core
+  pub many : 4096 < group_count held.core
+      → IsEstimate (gap_of (group_count held.core)) held.core (says_totals says)

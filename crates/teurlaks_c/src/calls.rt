@@ -3,7 +3,7 @@ ghost use Rattle.std.specs.Prelude.{◌≡◌, ◌↔◌, ◌⊎◌, ◌∷◌, 
 ghost use Rattle.span.specs.Classes.{IsObject, width_of};
 ghost use Rattle.marks.specs.Numbers.{AreWithin, limits_of};
 ghost use Rattle.teurlaks_c.specs.Numbers.{limits_given, limits_with};
-ghost use Rattle.teurlaks_c.specs.Calls.{Counts, Frees, FreesKey, Gets, GetsKey, GetsWords, HasNew, Nexts, NextsInSpan, Puts, PutsWords, SaysGot, SaysNext, SaysWords, Sets, SetsKey, SetsWords};
+ghost use Rattle.teurlaks_c.specs.Calls.{Counts, Estimates, Frees, FreesKey, Gets, GetsKey, GetsWords, HasNew, Nexts, NextsInSpan, Puts, PutsWords, SaysGot, SaysNext, SaysWords, Sets, SetsKey, SetsWords};
 ghost use Rattle.teurlaks_c.specs.Words.{word_of, words_of};
 ghost use Rattle.teurlaks_c.specs.Status.{config, has_core, no_core, out_of_memory};
 
@@ -317,6 +317,26 @@ pub extern "C" fn teurlaks_totals(handle: &mut Handle) -> TotalsReply
     TotalsReply {
         pages: totals.pages,
         live: totals.live,
+    }
+}
+
+/// About how many pages there are, and how many keys are live: exactly as many as
+/// `teurlaks_totals` says of up to 4,096 groups. Of more it looks at one of each so many, so that
+/// it takes no longer. Nothing changes.
+#[unsafe(no_mangle)]
+pub extern "C" fn teurlaks_estimate(handle: &mut Handle) -> TotalsReply
+    ensures live { IsSome handle.old.held
+        → Estimates handle.old.held result handle.new.held }
+    ensures none { handle.old.held ≡ None → (result.pages ≡ 0) × (result.live ≡ 0)
+        × (handle.new.held ≡ None) }
+{
+    let Some(held) = handle.held() else {
+        return TotalsReply { pages: 0, live: 0 };
+    };
+    let estimate = held.core.estimate();
+    TotalsReply {
+        pages: estimate.pages,
+        live: estimate.live,
     }
 }
 

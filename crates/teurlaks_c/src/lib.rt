@@ -28,7 +28,7 @@
 //!
 //! Nothing is asked of a handle: one that has no core, since none was made or it was dropped, is
 //! null, and each call tests it. It answers the status `NO_CORE` then, whatever else it is given;
-//! `teurlaks_totals` counts nothing, and `teurlaks_drop` does nothing.
+//! `teurlaks_totals` and `teurlaks_estimate` count nothing, and `teurlaks_drop` does nothing.
 //!
 //! Numbers cross and small structs of numbers, no enums and no numbers of 128 bits: a reply has a
 //! status (`status.rt`), and a word is two halves. A call passes `alloc`, which takes no bytes, so
@@ -80,9 +80,10 @@ mod walks;
 mod words;
 
 pub use calls::{
-    teurlaks_drop, teurlaks_free, teurlaks_get, teurlaks_get_words, teurlaks_new,
-    teurlaks_new_with_slots, teurlaks_new_with_spans, teurlaks_next, teurlaks_next_in_span,
-    teurlaks_put, teurlaks_put_words, teurlaks_set, teurlaks_set_words, teurlaks_totals,
+    teurlaks_drop, teurlaks_estimate, teurlaks_free, teurlaks_get, teurlaks_get_words,
+    teurlaks_new, teurlaks_new_with_slots, teurlaks_new_with_spans, teurlaks_next,
+    teurlaks_next_in_span, teurlaks_put, teurlaks_put_words, teurlaks_set, teurlaks_set_words,
+    teurlaks_totals,
 };
 pub use compacting::{
     teurlaks_compact_if_pays, teurlaks_compact_within, teurlaks_compaction_give_up,
@@ -95,6 +96,7 @@ pub use many::{teurlaks_free_many, teurlaks_get_many, teurlaks_put_many};
 pub use meshing::{
     teurlaks_adopt, teurlaks_begin, teurlaks_certificate, teurlaks_close, teurlaks_end,
     teurlaks_forget, teurlaks_gather, teurlaks_mark, teurlaks_retire, teurlaks_step, teurlaks_trim,
+    teurlaks_trim_some,
 };
 pub use places::{teurlaks_seat_arena, teurlaks_steward_arena};
 pub use recorded_stewards::{

@@ -5,7 +5,7 @@ ghost use Rattle.arena_core.specs.Sound.{IsSound};
 ghost use Rattle.arena_core.specs.Step.{CoreStep};
 ghost use Rattle.arena_core.specs.declared.reply.Reply.TheVariants as reply;
 ghost use Rattle.arena_core.specs.declared.event.Event.TheVariants as event;
-ghost use Rattle.teurlaks_c.specs.Calls.{Adopts, Begins, Closes, CountsOf, Ends, Forgets, Gathers, IsOfMark, Keeps, Marks, Retires, SaysForgotten, SaysGathered, SaysMarked, Steps, TakesStep, Tells, Trims, Writes};
+ghost use Rattle.teurlaks_c.specs.Calls.{Adopts, Begins, Closes, CountsOf, Ends, Forgets, Gathers, IsOfMark, Keeps, Marks, Retires, SaysForgotten, SaysGathered, SaysMarked, SaysPart, Steps, TakesStep, Tells, Trims, TrimsPart, Writes};
 ghost use Rattle.teurlaks_c.specs.Keys.{IsIdOf};
 ghost use Rattle.teurlaks_c.specs.Status.{no_core};
 
@@ -14,7 +14,7 @@ use crate::held::{Held, Witness};
 use crate::keys::raw_span;
 use crate::replies::{
     AdoptReply, CertificateReply, ForgetReply, GatherReply, MarkReply, RawSpan, RetireReply,
-    StepReply, TrimReply,
+    StepReply, TrimPartReply, TrimReply,
 };
 use crate::status::{
     EMPTIED, NO_CORE, NO_PAIR_LEFT, NO_PLAN, NONE, OK, OUT_OF_MEMORY, TOO_SMALL, status_of,
@@ -22,6 +22,7 @@ use crate::status::{
 use arena_core::{Core, Event, Refusal, Reply};
 use certificate::{Certificate, write};
 use fold::Step;
+use shard::TrimPart;
 use span::names::SpanId;
 use span::spans::Counted;
 use std::alloc::Global;
@@ -113,6 +114,28 @@ pub extern "C" fn teurlaks_trim(handle: &mut Handle, shard: u32) -> TrimReply
             count: 0,
         },
     }
+}
+
+/// What `teurlaks_trim` does, but of up to `most` groups of the shard alone, from its group `from`
+/// on. `groups` is how many these are, and `pages` how many pages went. There are fewer than `most`
+/// only if no more follow. Refused with `CONFIG` alone, if there is no such shard. It takes no
+/// memory.
+#[unsafe(no_mangle)]
+pub extern "C" fn teurlaks_trim_some(
+    handle: &mut Handle,
+    shard: u32,
+    from: usize,
+    most: usize,
+) -> TrimPartReply
+    ensures live { IsSome handle.old.held
+        → TrimsPart handle.old.held shard from most result handle.new.held }
+    ensures none { handle.old.held ≡ None → (result.status ≡ no_core) × (result.groups ≡ 0)
+        × (result.pages ≡ 0) × (handle.new.held ≡ None) }
+{
+    let Some(held) = handle.held() else {
+        return no_part(NO_CORE);
+    };
+    part_reply(held.core.trim_some(shard, from, most))
 }
 
 /// Forgets the spans of the core that can never be live again, with their generations; the count is
@@ -302,6 +325,31 @@ fn gathered_reply(answer: Result<usize, Refusal>) -> GatherReply
             status: status_of(refusal),
             count: 0,
         },
+    }
+}
+
+// What C reads of a trim of some groups.
+fn part_reply(answer: Result<TrimPart, Refusal>) -> TrimPartReply
+    ensures { SaysPart result answer }
+{
+    match answer {
+        Ok(part) => TrimPartReply {
+            status: OK,
+            groups: part.groups,
+            pages: part.pages,
+        },
+        Err(refusal) => no_part(status_of(refusal)),
+    }
+}
+
+// What C reads of a trim that is refused.
+fn no_part(status: u32) -> TrimPartReply
+    ensures { result ≡ record { status = status; groups = 0; pages = 0 } }
+{
+    TrimPartReply {
+        status,
+        groups: 0,
+        pages: 0,
     }
 }
 

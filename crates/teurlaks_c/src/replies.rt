@@ -104,6 +104,16 @@ pub struct TrimReply {
     pub count: usize,
 }
 
+/// What a trim of some groups answers: how many groups these are, and how many pages went, where
+/// the status is `OK`, else 0.
+#[repr(C)]
+#[derive(Clone, Copy)]
+pub struct TrimPartReply {
+    pub status: u32,
+    pub groups: usize,
+    pub pages: usize,
+}
+
 /// What a forgetting answers: how many spans went where the status is `OK`, else 0.
 #[repr(C)]
 #[derive(Clone, Copy)]

@@ -88,10 +88,11 @@ impl Core {
 
     /// [Compacts](Core::compact) if at least so many percent of the pages could go, and says how
     /// many went: so one may ask as often as one likes. If not, it gives back the pages on which no
-    /// key is live, and touches nothing else.
+    /// key is live, and touches nothing else. Of more than 4,096 pages it looks at so many, for
+    /// pages to give back at the next ones each time, so that it takes no longer if there are more.
     ///
-    /// How many could go is known from counts alone: the pages without those that the live keys
-    /// would need if these were full, and without as many as the last compaction has left that
+    /// How many could go is told by counts alone: the pages without those that the live keys would
+    /// need if these were full, and without as many as the last compaction has left that
     /// could have gone by this count. So a store whose pages do not fit each other is compacted
     /// again only once so much was freed since. If a compaction is under way, it goes on.
     ///
@@ -121,14 +122,14 @@ impl Core {
         }
     }
 
-    /// Gives back the pages on which no key is live, and says how many went, if then fewer than so
-    /// many percent of the pages could go. What is under way is for a compaction, and so is a plan.
+    /// Gives back pages on which no key is live, and says how many went, if then fewer than so many
+    /// percent of the pages could go. What is under way is for a compaction, and so is a plan.
     pub(crate) fn pass_over(&mut self, least_percent: usize) -> Option<usize> {
         if self.plan != Plan::None {
             return None;
         }
-        let trimmed = self.trim_all();
-        let pages = self.occupancy();
+        let trimmed = self.trim_in_turn();
+        let pages = self.estimate();
         // What was filled since may fold once it is sparse again.
         self.stay = self.stay.min(pages.most_folds() as u32);
         if !pages.pays(least_percent, self.stay as usize) {
@@ -316,7 +317,7 @@ impl Core {
         // What no shard may adopt stays in the pool.
         self.adopt_pooled();
         self.give_up_worn();
-        self.stay = self.occupancy().most_folds() as u32;
+        self.stay = self.estimate().most_folds() as u32;
     }
 
     /// Ends a compaction where it is: no plan of it is open, and the shards have the groups of the

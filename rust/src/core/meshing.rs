@@ -176,6 +176,51 @@ impl Core {
         Ok(count)
     }
 
+    /// Trims as [`Core::trim`] does up to `most` groups of the shard, from this one on, and says
+    /// how many groups these are, and how many pages went. There are fewer than `most` only if no
+    /// more follow.
+    pub(crate) fn trim_some(
+        &mut self,
+        shard: u32,
+        from: usize,
+        most: usize,
+    ) -> Result<(usize, usize), Refused> {
+        if !self.is_open() {
+            return self.has_shard(shard).map(|()| (0, 0));
+        }
+        // SAFETY: as in `insert`.
+        let raw::TrimPartReply {
+            status,
+            groups,
+            pages,
+        } = unsafe { raw::teurlaks_trim_some(&mut self.handle, shard, from, most) };
+        done(status)?;
+        self.emptied |= u64::from(pages > 0) << shard;
+        self.gathering.count(pages);
+        Ok((groups, pages))
+    }
+
+    /// Trims up to 4,096 groups, or all of fewer, and says how many pages went. It begins where the
+    /// last such call stopped, so each group has its turn.
+    pub(crate) fn trim_in_turn(&mut self) -> usize {
+        let (mut left, mut went) = (MOST_GROUPS, 0);
+        // The shard that is first is last again, up to where the call began.
+        for _ in 0..=self.shards() {
+            let (shard, group) = self.next_trim;
+            let Ok((groups, pages)) = self.trim_some(shard.into(), group as usize, left) else {
+                break;
+            };
+            went += pages;
+            left -= groups;
+            if left == 0 {
+                self.next_trim = (shard, group + groups as u32);
+                break;
+            }
+            self.next_trim = ((shard + 1) % self.shards() as u8, 0);
+        }
+        went
+    }
+
     /// Forgets the pages whose keys are all gone and that were folded onto others, or left to the
     /// pool, with the generations that are kept of them, and says how many. A page that its shard
     /// has opened stays known there, since it takes values again. Nothing else changes: keys of

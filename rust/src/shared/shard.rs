@@ -13,7 +13,7 @@ use std::time::{Duration, Instant};
 /// of some 1,000 pages retirements take up to 0.1 ms, and marks up to 0.4.
 const HOLD: Duration = Duration::from_micros(50);
 
-/// How many groups a retirement takes at most, and the budget by which plans are bounded.
+/// How many groups a trim and a retirement take at most, and the budget by which plans are bounded.
 const PIECE: usize = 64;
 
 /// The fewest pages for which a core gets a pool, which takes some memory of its own.
@@ -36,6 +36,8 @@ struct Pool {
     is_there: bool,
     // Whether a compaction has begun and is not done.
     is_under_way: bool,
+    // The group that is trimmed next, as long as the compaction trims.
+    trims: Option<usize>,
     // The pages that went in parts that were refused later.
     pages: usize,
 }
@@ -65,10 +67,23 @@ impl<T> Shard<T> {
         done
     }
 
-    /// Gives back the pages on which nothing is live, and says how many went.
+    /// Gives back the pages on which nothing is live, in pieces, and says how many went.
     pub fn trim(&self) -> usize {
-        // It is refused only where there is no such shard.
-        self.piece(|store| store.trim(0).unwrap_or(0)).unwrap_or(0)
+        let (mut went, mut next) = (0, Some(0));
+        while let Some(from) = next {
+            let pages;
+            (pages, next) = self.trim_from(from);
+            went += pages;
+        }
+        went
+    }
+
+    /// Does so with some groups from this one on, and says which one comes next.
+    fn trim_from(&self, from: usize) -> (usize, Option<usize>) {
+        // It is refused only if there is no such shard.
+        let trimmed = self.piece(|store| store.trim_some(0, from, PIECE).unwrap_or((0, 0)));
+        let (groups, pages) = trimmed.unwrap_or((0, 0));
+        (pages, (groups == PIECE).then_some(from + groups))
     }
 
     /// Whoever has it compacts or forgets alone.
@@ -99,7 +114,7 @@ impl<T> Shard<T> {
 
     /// The pages that went in refused parts of it are not counted any more.
     fn give_up_in(&self, pool: &mut Pool) {
-        pool.pages = 0;
+        (pool.pages, pool.trims) = (0, None);
         if std::mem::take(&mut pool.is_under_way) {
             self.piece(Store::give_up_compaction);
         }
@@ -108,7 +123,7 @@ impl<T> Shard<T> {
     /// Forgets before the first piece, since what is forgotten need not move.
     fn compact_pieces(&self, pool: &mut Pool, left: &mut usize) -> Result<Compacted, Refused> {
         if !pool.is_under_way {
-            let Some(pages) = self.lock().as_ref().map(Store::pages) else {
+            let Some((pages, _)) = self.lock().as_ref().map(Store::pages_and_most_folds) else {
                 return Ok(Compacted::default());
             };
             *left = left.saturating_sub(1);
@@ -117,7 +132,13 @@ impl<T> Shard<T> {
                 let pages = self.trim();
                 return Ok(Compacted { pages, more: false });
             }
-            (pool.is_there, pool.is_under_way) = (true, true);
+            (pool.is_there, pool.is_under_way, pool.trims) = (true, true, Some(0));
+        }
+        while let (Some(from), 1..) = (pool.trims, *left) {
+            let pages;
+            (pages, pool.trims) = self.trim_from(from);
+            pool.pages += pages;
+            *left -= 1;
         }
         while pool.is_under_way && *left > 0 {
             let done = self
