@@ -9,7 +9,7 @@ use std::collections::HashMap;
 use std::marker::Model;
 
 /// Entries by numbers, in a hash table that is made when room for one is first reserved. Until then
-/// it takes one word of its owner, and no memory.
+/// it takes two words of its owner, and no memory.
 ///
 /// An entry goes into reserved room, so that no entry is refused once something has changed.
 #[derive(Drop)]
