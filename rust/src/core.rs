@@ -9,6 +9,7 @@ mod meshing;
 mod words;
 mod worn;
 
+use self::limits::Numbers;
 pub(crate) use lent::{letting_go, meshing};
 pub use limits::Limits;
 pub(crate) use limits::{ends_turn, MOST_SHARDS, SHARDS};
@@ -88,14 +89,16 @@ pub struct Core {
     // `teurlaks_new_with_slots` left there until `drop`. Of a handle without a core the library
     // answers `NO_CORE`, counts nothing, and drops nothing.
     handle: raw::Handle,
-    limits: Limits,
-    // How many words the least object has that was put.
-    least_words: u8,
+    numbers: Numbers,
     // Whose plan is open.
     plan: Plan,
     // Whether groups may be in the pool: ends and retirements leave some there.
     pool: bool,
     order: Order,
+    // The shard, and the group of it, that the next part of a trim in turn begins with.
+    next_trimmed: u8,
+    next_group: u32,
+    gathering: Gathering,
     // How many pages could have gone, by their counts, after the last compaction: fewer than 2^26.
     stay: u32,
     // How many pages went in calls of a compaction that were refused, and were not counted yet:
@@ -107,9 +110,6 @@ pub struct Core {
     ended: u64,
     // A bit for each shard of which a trim has left groups without a page since such were given up.
     emptied: u64,
-    gathering: Gathering,
-    // The shard and the group that the next part of a trim in turn begins with.
-    next_trim: (u8, u32),
 }
 
 /// Whose plan is open.
@@ -140,13 +140,12 @@ impl Core {
     ///
     /// [`Refused::Config`] exactly where a number is out of its range.
     pub fn new(limits: Limits) -> Result<Core, Refused> {
-        limits.check()?;
+        let numbers = Numbers::new(limits)?;
         Ok(Core {
             handle: raw::Handle {
                 at: ptr::null_mut(),
             },
-            limits,
-            least_words: MOST_WORDS as u8,
+            numbers,
             plan: Plan::None,
             pool: false,
             order: Order::Kept,
@@ -155,7 +154,8 @@ impl Core {
             emptied: 0,
             gone: 0,
             gathering: Gathering::default(),
-            next_trim: (0, 0),
+            next_trimmed: 0,
+            next_group: 0,
             stay: 0,
         })
     }
@@ -167,7 +167,7 @@ impl Core {
     /// As of [`Core::new`].
     pub(crate) fn of_objects(limits: Limits, words: usize) -> Result<Core, Refused> {
         let mut core = Core::new(limits)?;
-        core.least_words = words as u8;
+        core.numbers.least_words = words as u8;
         Ok(core)
     }
 
@@ -194,7 +194,7 @@ impl Core {
             spans,
             slots,
             generations,
-        } = self.limits;
+        } = self.limits();
         let handle = &mut self.handle;
         // SAFETY: the handle has no core yet. One that is refused stays null.
         unsafe { raw::teurlaks_new_with_slots(handle, shards, pages, spans, slots, 1, generations) }
@@ -210,7 +210,7 @@ impl Core {
 
     /// That there is such a shard.
     fn has_shard(&self, shard: u32) -> Result<(), Refused> {
-        if shard < self.limits.shards {
+        if shard < self.shards() {
             Ok(())
         } else {
             Err(Refused::Config)
@@ -219,8 +219,9 @@ impl Core {
 
     /// The numbers with which it was made.
     #[must_use]
+    #[inline]
     pub fn limits(&self) -> Limits {
-        self.limits
+        self.numbers.limits()
     }
 
     /// Whether there is such a shard and it has ended.
@@ -264,7 +265,7 @@ impl Core {
     #[allow(clippy::inline_always)]
     #[inline(always)]
     fn plain_key(&mut self, put: raw::PutReply, len: usize) -> Option<Key> {
-        let is_plain = self.has_later_key(&put) && len >= self.least_words.into();
+        let is_plain = self.has_later_key(&put) && len >= self.numbers.least_words.into();
         self.count_plain(put, is_plain)
     }
 
@@ -273,7 +274,7 @@ impl Core {
     #[inline(always)]
     fn has_later_key(&self, put: &raw::PutReply) -> bool {
         // No key has generation 0, which is passed over here too.
-        put.status == raw::OK && put.key.generation.wrapping_sub(1) < self.limits.generations - 1
+        put.status == raw::OK && put.key.generation.wrapping_sub(1) < self.numbers.generations - 1
     }
 
     /// The same, if no object with fewer words is ever put: `of_objects` made the core.
@@ -335,14 +336,14 @@ impl Core {
         };
         self.live += 1;
         self.note_put(key);
-        self.least_words = self.least_words.min(len as u8);
+        self.numbers.least_words = self.numbers.least_words.min(len as u8);
         reply
     }
 
     /// Notes whether a slot has given out its last key with this one.
     #[inline]
     fn note_put(&mut self, key: Key) {
-        if key.generation() >= self.limits.generations {
+        if key.generation() >= self.numbers.generations {
             self.order = Order::Worn;
         }
     }
@@ -555,7 +556,7 @@ impl Core {
         Occupancy {
             pages: 0,
             live: 0,
-            slots: (self.limits).slots_of(slots_for(usize::from(self.least_words))),
+            slots: (self.limits()).slots_of(slots_for(usize::from(self.numbers.least_words))),
         }
     }
 

@@ -42,6 +42,12 @@ fn bytes_each<S>(make: impl Fn() -> S) -> usize {
     size_of::<S>() + beside
 }
 
+/// What a caller moves: `c/memory.c` counts what stands behind it.
+fn each_is_small() {
+    assert!(size_of::<Core>() <= 72 && size_of::<Store<u64>>() <= 80);
+    assert!(size_of::<Slab<u64>>() <= 200);
+}
+
 fn no_value_takes_no_memory() {
     let limits = Limits {
         shards: 64,
@@ -76,8 +82,7 @@ fn no_value_takes_no_memory() {
     assert!(bytes_taken() < before + 1000);
 }
 
-/// With one value each takes some lists and one shard of its 16 beside its pages, which the
-/// allocator does not count.
+/// With one value each takes some lists, one shard of its 16, and a short page.
 fn one_value_takes_little() {
     let core = || {
         let mut core = Core::new(Limits {
@@ -237,6 +242,7 @@ fn unwinds<T: UnwindSafe + RefUnwindSafe>(_: &T) {}
 
 #[test]
 fn until_used() -> Result<(), Refused> {
+    each_is_small();
     no_value_takes_no_memory();
     one_value_takes_little();
     it_answers_as_one_that_had_values()?;

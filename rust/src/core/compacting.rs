@@ -238,7 +238,7 @@ impl Core {
         }
         if self.plan != Plan::Compaction {
             // A forgetting, the trims, and one that finds that there is no such shard.
-            let steps = self.limits.shards as usize + 2;
+            let steps = self.shards() as usize + 2;
             *left = left.saturating_sub(steps);
             return self.compact_within(steps);
         }

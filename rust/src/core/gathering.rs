@@ -65,7 +65,9 @@ impl Core {
         let Gathering::Waiting { went } = self.gathering else {
             return;
         };
-        let has_small = self.limits.has_small_pages(self.least_words.into());
+        let has_small = self
+            .limits()
+            .has_small_pages(self.numbers.least_words.into());
         if has_small && went > 0 && (went as usize).saturating_mul(PAYS) >= self.pages() {
             self.gathering = Gathering::UnderWay { shard: 0, group: 0 };
         }
@@ -104,7 +106,7 @@ impl Core {
     fn behind(&self, shard: u8, group: u32, is_at_end: bool) -> Gathering {
         match is_at_end {
             false => Gathering::UnderWay { shard, group },
-            true if u32::from(shard) + 1 < self.limits.shards => Gathering::UnderWay {
+            true if u32::from(shard) + 1 < self.shards() => Gathering::UnderWay {
                 shard: shard + 1,
                 group: 0,
             },

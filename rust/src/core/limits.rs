@@ -1,6 +1,6 @@
 //! The numbers of a core.
 
-use crate::bytes::slots_for;
+use crate::bytes::{slots_for, MOST_WORDS};
 use crate::key_bits::KeyBits;
 use crate::names::Key;
 use crate::refused::Refused;
@@ -108,6 +108,49 @@ impl Limits {
             Ok(())
         } else {
             Err(Refused::Config)
+        }
+    }
+}
+
+/// Limits that are within their ranges, and how many words the least object has, in 16 bytes.
+#[derive(Clone, Copy)]
+pub(super) struct Numbers {
+    pages: u32,
+    spans: u32,
+    pub generations: u32,
+    slots: u16,
+    shards: u8,
+    /// How many words the least object has that was put.
+    pub least_words: u8,
+}
+
+impl Numbers {
+    /// These limits, and no object yet.
+    ///
+    /// # Errors
+    ///
+    /// `Config` where one is out of its range.
+    pub fn new(limits: Limits) -> Result<Numbers, Refused> {
+        limits.check()?;
+        Ok(Numbers {
+            pages: limits.pages,
+            spans: limits.spans,
+            generations: limits.generations,
+            slots: limits.slots as u16,
+            shards: limits.shards as u8,
+            least_words: MOST_WORDS as u8,
+        })
+    }
+
+    /// The limits as they were given.
+    #[inline]
+    pub fn limits(self) -> Limits {
+        Limits {
+            shards: self.shards.into(),
+            pages: self.pages,
+            spans: self.spans,
+            slots: self.slots.into(),
+            generations: self.generations,
         }
     }
 }

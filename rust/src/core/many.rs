@@ -66,7 +66,7 @@ impl Core {
         };
         self.live += reply.count;
         if reply.count > 0 {
-            self.least_words = 1;
+            self.numbers.least_words = 1;
         }
         for key in room
             .iter()

@@ -206,17 +206,17 @@ impl Core {
         let (mut left, mut went) = (MOST_GROUPS, 0);
         // The shard that is first is last again, up to where the call began.
         for _ in 0..=self.shards() {
-            let (shard, group) = self.next_trim;
+            let (shard, group) = (self.next_trimmed, self.next_group);
             let Ok((groups, pages)) = self.trim_some(shard.into(), group as usize, left) else {
                 break;
             };
             went += pages;
             left -= groups;
             if left == 0 {
-                self.next_trim = (shard, group + groups as u32);
+                self.next_group = group + groups as u32;
                 break;
             }
-            self.next_trim = ((shard + 1) % self.shards() as u8, 0);
+            (self.next_trimmed, self.next_group) = ((shard + 1) % self.shards() as u8, 0);
         }
         went
     }
@@ -387,12 +387,12 @@ impl Core {
 
     /// How many shards there are, with those that have ended.
     pub(crate) fn shards(&self) -> u32 {
-        self.limits.shards
+        self.limits().shards
     }
 
     /// How many shards have not ended.
     pub(crate) fn running_shards(&self) -> usize {
-        (self.limits.shards - self.ended.count_ones()) as usize
+        (self.shards() - self.ended.count_ones()) as usize
     }
 
     /// Trims each shard, and says how many pages went.

@@ -106,7 +106,7 @@ impl Core {
     #[allow(clippy::inline_always)]
     #[inline(always)]
     pub(crate) fn put_zeros(&mut self, shard: u32, len: usize) -> Result<Key, raw::PutReply> {
-        debug_assert_eq!(usize::from(self.least_words), len);
+        debug_assert_eq!(usize::from(self.numbers.least_words), len);
         let put = self.ask_for_zeros(shard, len);
         match self.plain_key_of_least(put) {
             Some(key) => Ok(key),
