@@ -183,7 +183,7 @@ impl<T> Slab<T> {
     /// # use teurlaks::Slab;
     /// let mut slab = Slab::try_from_iter(0..1000)?;
     /// slab.clear();
-    /// assert_eq!((slab.shrink_to_fit(), slab.pages()), (4, 0));
+    /// assert_eq!((slab.shrink_to_fit(), slab.pages()), (8, 0));
     /// # Ok::<(), teurlaks::Refused>(())
     /// ```
     pub fn shrink_to_fit(&mut self) -> usize {

@@ -1046,7 +1046,7 @@ fn a_seat_that_helps_takes_back_what_is_left() -> Result<(), Refused> {
         ..Limits::default()
     })?;
     let mut seat = arena.seat()?;
-    let keys = (0..20 * 256)
+    let keys = (0..20 * 128)
         .map(|number| seat.insert(number))
         .collect::<Result<Vec<_>, _>>()?;
     // One value stays on each page: on all but two at the same slot.

@@ -481,6 +481,7 @@ fn what_was_filled_since_may_fold() -> Result<(), Refused> {
     const PAGES: usize = 100;
     let mut store = Store::<u64>::with_limits(Limits {
         shards: 1,
+        slots: 256,
         ..Limits::default()
     })?;
     for n in 0..PAGES as u64 * 256 {

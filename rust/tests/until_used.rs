@@ -104,7 +104,7 @@ fn one_value_takes_little() {
     };
     let (core, slab, store) = (bytes_each(core), bytes_each(slab), bytes_each(store));
     // Each block is counted with what the allocator adds.
-    for (each, most) in [(core, 1056), (slab, 1024), (store, 1064)] {
+    for (each, most) in [(core, 1080), (slab, 1080), (store, 1088)] {
         assert!(each <= most, "{each} bytes");
     }
     // A slab has a block of four values and the home of one span beside its core, and no page.

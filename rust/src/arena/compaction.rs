@@ -62,7 +62,7 @@ impl<T> Arena<T> {
     ///
     /// let mut arena = Arena::open(Limits { shards: 2, ..Limits::default() })?;
     /// let mut seat = arena.seat()?;
-    /// let keys: Vec<_> = (0..25_600).map(|n| seat.insert(n)).collect::<Result<_, _>>()?;
+    /// let keys: Vec<_> = (0..12_800).map(|n| seat.insert(n)).collect::<Result<_, _>>()?;
     /// for (n, key) in keys.iter().enumerate().filter(|(n, _)| n % 23 != 0) {
     ///     seat.free(*key);
     /// }
@@ -213,7 +213,7 @@ impl<T: Copy + Send + 'static> Arena<T> {
     /// let mut seat = arena.lock().unwrap().seat()?;
     /// let policy = Policy { interval: Duration::from_millis(1), ..Policy::default() };
     /// let compacts = Arena::compact_in_background(&arena, policy)?;
-    /// let keys: Vec<_> = (0..25_600).map(|n| seat.insert(n)).collect::<Result<_, _>>()?;
+    /// let keys: Vec<_> = (0..12_800).map(|n| seat.insert(n)).collect::<Result<_, _>>()?;
     /// for (n, key) in keys.iter().enumerate().filter(|(n, _)| n % 23 != 0) {
     ///     seat.free(*key);
     /// }

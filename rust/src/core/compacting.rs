@@ -45,7 +45,7 @@ impl Core {
     /// for (i, key) in keys.iter().enumerate().filter(|(i, _)| i % 23 != 0) {
     ///     core.free(*key);
     /// }
-    /// assert_eq!((core.pages(), core.compact()?, core.pages()), (4, 3, 1));
+    /// assert_eq!((core.pages(), core.compact()?, core.pages()), (8, 7, 1));
     /// assert_eq!(core.get(keys[46]), Some(46));
     /// # Ok::<(), teurlaks::Refused>(())
     /// ```
@@ -103,11 +103,11 @@ impl Core {
     /// ```
     /// # use teurlaks::{Core, Limits};
     /// let mut core = Core::new(Limits::default())?;
-    /// let keys: Vec<_> = (0..25_600).map(|i| core.insert(0, i)).collect::<Result<_, _>>()?;
+    /// let keys: Vec<_> = (0..12_800).map(|i| core.insert(0, i)).collect::<Result<_, _>>()?;
     /// let mut gone = Vec::new();
     /// for (i, key) in keys.iter().enumerate().filter(|(i, _)| i % 23 != 0) {
     ///     core.free(*key);
-    ///     if i % 256 == 0 {
+    ///     if i % 128 == 0 {
     ///         gone.push(core.compact_if_pays(50)?);
     ///     }
     /// }
@@ -169,7 +169,7 @@ impl Core {
     /// ```
     /// # use teurlaks::{Core, Limits};
     /// let mut core = Core::new(Limits::default())?;
-    /// let keys: Vec<_> = (0..25_600).map(|i| core.insert(0, i)).collect::<Result<_, _>>()?;
+    /// let keys: Vec<_> = (0..12_800).map(|i| core.insert(0, i)).collect::<Result<_, _>>()?;
     /// for (i, key) in keys.iter().enumerate().filter(|(i, _)| i % 23 != 0) {
     ///     core.free(*key);
     /// }

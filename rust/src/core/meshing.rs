@@ -118,15 +118,15 @@ impl Core {
     /// ```
     /// # use teurlaks::{Core, Limits};
     /// let mut core = Core::new(Limits::default())?;
-    /// let keys: Vec<_> = (0..512).map(|word| core.insert(0, word)).collect::<Result<_, _>>()?;
+    /// let keys: Vec<_> = (0..256).map(|word| core.insert(0, word)).collect::<Result<_, _>>()?;
     /// for (place, key) in keys.iter().enumerate() {
-    ///     if place != 0 && place != 257 {
+    ///     if place != 0 && place != 129 {
     ///         core.free(*key); // one word is left on each of two pages
     ///     }
     /// }
     /// assert_eq!(core.retire(0, 1)?, 1);
     /// assert_eq!(core.mesh()?, 1);
-    /// assert_eq!((core.pages(), core.get(keys[0]), core.get(keys[257])), (1, Some(0), Some(257)));
+    /// assert_eq!((core.pages(), core.get(keys[0]), core.get(keys[129])), (1, Some(0), Some(129)));
     /// # Ok::<(), teurlaks::Refused>(())
     /// ```
     pub fn retire(&mut self, shard: u32, most: usize) -> Result<usize, Refused> {
@@ -154,8 +154,8 @@ impl Core {
     /// ```
     /// # use teurlaks::{Core, Limits};
     /// let mut core = Core::new(Limits::default())?;
-    /// let keys: Vec<_> = (0..512).map(|word| core.insert(0, word)).collect::<Result<_, _>>()?;
-    /// for key in &keys[..256] {
+    /// let keys: Vec<_> = (0..256).map(|word| core.insert(0, word)).collect::<Result<_, _>>()?;
+    /// for key in &keys[..128] {
     ///     core.free(*key);
     /// }
     /// assert_eq!((core.trim(0)?, core.pages()), (1, 1));
@@ -234,7 +234,7 @@ impl Core {
     /// ```
     /// # use teurlaks::{Core, Limits};
     /// let mut core = Core::new(Limits { shards: 2, ..Limits::default() })?;
-    /// let keys = (0..512).map(|i| core.insert(i % 2, i.into()));
+    /// let keys = (0..256).map(|i| core.insert(i % 2, i.into()));
     /// let keys = keys.collect::<Result<Vec<_>, _>>()?;
     /// for (i, key) in keys.iter().enumerate().filter(|(i, _)| i % 23 != 0) {
     ///     core.free(*key);

@@ -99,10 +99,10 @@ impl<T> Slab<T> {
     /// ```
     /// # use teurlaks::Slab;
     /// let mut slab = Slab::new()?;
-    /// let keys: Vec<_> = (0..1024).map(|i| slab.insert(i)).collect::<Result<_, _>>()?;
-    /// slab.retain(|_, i| *i % 19 == 0); // 54 of 1,024 are left, on four pages
+    /// let keys: Vec<_> = (0..512).map(|i| slab.insert(i)).collect::<Result<_, _>>()?;
+    /// slab.retain(|_, i| *i % 19 == 0); // 27 of 512 are left, on four pages
     /// assert_eq!(slab.compact()?, 3);
-    /// assert_eq!((slab.pages(), slab.len(), slab.get(keys[38])), (1, 54, Some(&38)));
+    /// assert_eq!((slab.pages(), slab.len(), slab.get(keys[38])), (1, 27, Some(&38)));
     /// # Ok::<(), teurlaks::Refused>(())
     /// ```
     pub fn compact(&mut self) -> Result<usize, Refused> {
@@ -123,7 +123,7 @@ impl<T> Slab<T> {
     ///
     /// ```
     /// # use teurlaks::Slab;
-    /// let mut slab = Slab::try_from_iter(0..25_600)?;
+    /// let mut slab = Slab::try_from_iter(0..12_800)?;
     /// slab.retain(|_, i| *i % 3 > 0);
     /// assert_eq!(slab.compact_if_pays(50)?, 0);
     /// slab.retain(|_, i| *i % 19 == 0);
@@ -155,7 +155,7 @@ impl<T> Slab<T> {
     ///
     /// ```
     /// # use teurlaks::Slab;
-    /// let mut slab = Slab::try_from_iter(0..25_600)?;
+    /// let mut slab = Slab::try_from_iter(0..12_800)?;
     /// slab.retain(|_, i| *i % 19 == 0);
     /// let mut gone = 0;
     /// while slab.len() > 0 {
