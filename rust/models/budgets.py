@@ -8,7 +8,8 @@ The model is of two shards. Threads compact within a budget (rust/src/shared/tur
 at once, give a compaction up as a background does, and insert. A shard of a store has two locks,
 one for whoever compacts and one for the store itself (rust/src/shared/shard.rs); one of a slab has
 the second alone (rust/src/shared_slab.rs). Each step takes a lock, or does what is done under one.
-Once a part is refused for want of memory.
+A trim of some groups, which comes first, is a part like the others. Once a part is refused for want
+of memory.
 
 What is checked of each state that can be reached: no two threads work on a shard at once; while
 nobody compacts a shard of a store, it is known whether its compaction is under way; once a
@@ -67,14 +68,17 @@ SOURCES = {
         "pub fn compact_within(": ["compact_pieces(&mut self.lock_pool(), left)"],
         "pub fn give_up(": ["self.give_up_in(&mut self.lock_pool())"],
         "fn give_up_in(": [
-            "pool.pages = 0",
+            "(pool.pages, pool.trims) = (0, None)",
             "take(&mut pool.is_under_way)",
             "piece(Store::give_up_compaction)",
         ],
         "fn compact_pieces(": [
             "if !pool.is_under_way",
             "self.forget_some()?",
-            "(true, true)",
+            "(true, true, Some(0))",
+            "while let (Some(from), 1..) = (pool.trims, *left)",
+            "self.trim_from(from)",
+            "pool.pages += pages",
             "while pool.is_under_way && *left > 0",
             "piece(|store|",
             "store.compact_until(left, PIECE,",
@@ -109,7 +113,7 @@ SOURCES = {
 }
 
 # How often these stand in shard.rs: nothing else changes what is known of a compaction.
-CHANGES = {"is_under_way = ": 1, "pool.pages": 3, "lock_pool()": 4, "take(&mut pool.": 2}
+CHANGES = {"is_under_way = ": 1, "pool.pages": 4, "lock_pool()": 4, "take(&mut pool.": 2}
 
 FREE = -1
 SHARDS = 2
