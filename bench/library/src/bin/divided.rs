@@ -24,6 +24,7 @@ fn fill(core: &mut Core, pages: &[Occupied], slots: usize) -> Result<Vec<(Key, u
 fn left(pages: &[Occupied], slots: usize) -> Result<usize, Refused> {
     let mut core = Core::new(Limits {
         shards: SHARDS as u32,
+        slots: 256,
         ..Limits::default()
     })?;
     let keys = fill(&mut core, pages, slots)?;

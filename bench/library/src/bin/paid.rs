@@ -25,6 +25,7 @@ impl Filled {
             pages: u32::try_from(pages)
                 .unwrap_or(u32::MAX)
                 .clamp(1024, 1 << 20),
+            slots: 256,
             ..Limits::default()
         };
         Ok(Filled {
